@@ -1,0 +1,3 @@
+-- What the contracts of `verifier` cite.
+pub mod Verdict
+pub mod View
