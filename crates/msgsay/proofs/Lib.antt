@@ -1,0 +1,1 @@
+-- No lemma is needed: the loops want only their invariants.
