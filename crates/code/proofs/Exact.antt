@@ -1,6 +1,6 @@
 -- The checker's test is what the words say. Assumes nothing.
 use Rattle.std.proofs.Common.{◌≡◌, ℕ, zero, suc, pred, ◌+◌, ◌-◌, ◌<◌, Bool, true, false, ◌&&◌, ltb, List, [], ◌∷◌, length, get_or, drop, sym, refl, ap, ◌∙◌, subst, suc-add, zero-add, arith, length-drop}
-use Rattle.std.proofs.lemmas.Bool.{true≢false, false≢true, and_parts, and_from, and_left, and_right, lt-ltb}
+use Rattle.std.proofs.lemmas.Bool.{true≢false, false≢true, and_parts, and_from, lt-ltb}
 use Rattle.std.proofs.lemmas.List.{drop-drop}
 use Rattle.code.specs.Step.{Step, size, whole, exits, needs, decode}
 use Rattle.code.specs.Code.{each, begins, step_good, good_on, good, bad_at}
@@ -38,33 +38,6 @@ module _ (read : List ℕ → Step) where
       let h = size_pos (read (x ∷ xs)) in
       let q : size (read (x ∷ xs)) ≡ suc (pred (size (read (x ∷ xs)))) = omega arith in
       ap (begins read zero (x ∷ xs)) q ∙ ap (λ (b : Bool). b && begins read (pred (size (read (x ∷ xs)))) xs (pred (size (read (x ∷ xs))))) w ∙ begins_past (pred (size (read (x ∷ xs)))) xs (omega arith)
-
-  -- inside a step none begins, and behind one that is cut neither
-  begins_early : (n : ℕ) (r : List ℕ) (k : ℕ) → k < n → begins read n r k ≡ false
-  unfolding begins
-  begins_early n [] k l = refl
-  begins_early zero (x ∷ xs) k l = absurd (omega arith)
-  begins_early (suc n) (x ∷ xs) zero l = refl
-  begins_early (suc n) (x ∷ xs) (suc k) l = begins_early n xs k (omega arith)
-
-  pub begins_first : (r : List ℕ) → 0 < length r → begins read zero r 0 ≡ true
-  begins_first r l = begins_past 0 r l
-
-  pub begins_inside : (r : List ℕ) (k : ℕ) → 0 < k → k < size (read r) → begins read zero r k ≡ false
-  unfolding begins
-  begins_inside [] k p l = refl
-  begins_inside (x ∷ xs) zero p l = absurd (omega arith)
-  begins_inside (x ∷ xs) (suc k) p l = and_right (whole (read (x ∷ xs))) _ (begins_early (pred (size (read (x ∷ xs)))) xs k (omega arith))
-
-  pub begins_cut : (r : List ℕ) (k : ℕ) → 0 < k → whole (read r) ≡ false → begins read zero r k ≡ false
-  unfolding begins
-  begins_cut [] k p w = refl
-  begins_cut (x ∷ xs) zero p w = absurd (omega arith)
-  begins_cut (x ∷ xs) (suc k) p w = and_left (whole (read (x ∷ xs))) _ w
-
-  -- behind a step the beginnings are those of what is left
-  pub begins_next : (r : List ℕ) (m : ℕ) → whole (read r) ≡ true → size (read r) < length r → begins read zero r (size (read r) + m) ≡ begins read zero (drop (size (read r)) r) m
-  begins_next r m w l = begins_on zero r (size (read r)) m (begins_behind r w l)
 
 tail_at : (c : List ℕ) (p x : ℕ) (xs : List ℕ) → drop p c ≡ x ∷ xs → drop (suc p) c ≡ xs
 tail_at c p x xs q = let h : drop 1 (drop p c) ≡ drop (p + 1) c = drop-drop 1 p c in let k : p + 1 ≡ suc p = omega arith in sym (ap (λ (n : ℕ). drop n c) k) ∙ sym h ∙ ap (drop 1) q

@@ -1,4 +1,4 @@
--- Lemmas by topic: Laws holds what is true of each step by itself, Whole of a step that lies within the code, Goods of good code, Theorems and Ways the promises over any reader, Exact the test against the words, Widening what a wider reader keeps, Choosing that choosing is one, Rowwise the table's rows, Reading the program's decoder, Prefixed runs by what is left alone.
+-- Lemmas by topic: Laws holds what is true of each step by itself, Whole of a step that lies within the code, Goods of good code, Theorems and Ways the promises over any reader, Exact the test against the words, Widening what a wider reader keeps, Rowwise the table's rows, Reading the program's decoder, Prefixed runs by what is left alone.
 pub mod Laws
 pub mod Whole
 pub mod Goods
@@ -6,7 +6,6 @@ pub mod Theorems
 pub mod Ways
 pub mod Exact
 pub mod Widening
-pub mod Choosing
 pub mod Rowwise
 pub mod Reading
 pub mod Prefixed

@@ -2,7 +2,7 @@
 use Rattle.std.proofs.Common.{◌≡◌, ℕ, suc, ◌+◌, ◌-◌, ◌≤◌, Bool, true, false, cond, eqb, leb, List, [], ◌∷◌, ◌++◌, length, take, drop, refl, arith, length-append, length-drop}
 use Rattle.std.proofs.lemmas.Bool.{false≢true, leb-true, le-leb}
 use Rattle.std.proofs.lemmas.List.{take-append-le, drop-append-le, length-take-le}
-use Rattle.code.specs.Step.{Step, ends, letters, argument, select, skip, unknown, cut, size, needs, byte, part, Table, find, read_by, saying_rows, choosing_rows, table, decode}
+use Rattle.code.specs.Step.{Step, ends, letters, argument, unknown, cut, size, needs, byte, part, Table, find, read_by, table, decode}
 use Rattle.code.specs.Promise.{Widens}
 
 abbrev pub Reads : ℕ → (List ℕ → Step) → Type 0
@@ -71,7 +71,7 @@ widens_by ts us ks (x ∷ xs) n = find_widens ts us x ks xs n
 
 -- a line for each row of the table
 pub decode_reads : Reads 0 decode
-unfolding decode table saying_rows choosing_rows size
+unfolding decode table size
 decode_reads =
     reads_by table (
       reads_done 1 ends (omega arith),
@@ -79,10 +79,7 @@ decode_reads =
         reads_byte 1 _ (λ n. reads_part 2 n (λ t zs. letters t) (λ t q. reads_done (2 + n) (letters t) (omega arith))),
         (
           reads_byte 1 _ (λ i. reads_done 2 (argument i) (omega arith)),
-          (
-            reads_byte 1 _ (λ i. reads_part 2 6 (λ ds zs. select i ds) (λ ds q. reads_done (2 + 6) (select i ds) (omega arith))),
-            (reads_byte 1 _ (λ d. reads_done 2 (skip d) (omega arith)), tt),
-          ),
+          tt,
         ),
       ),
     )

@@ -1,17 +1,11 @@
 -- What a wider reader of steps keeps. Assumes nothing.
-use Rattle.std.proofs.Common.{◌≡◌, ℕ, zero, suc, pred, ◌+◌, ◌-◌, ◌<◌, Bool, true, false, cond, ◌&&◌, ltb, List, [], ◌∷◌, ◌++◌, length, get_or, drop, sym, refl, ap, ◌∙◌, ap₂, arith}
+use Rattle.std.proofs.Common.{◌≡◌, ℕ, zero, suc, pred, ◌+◌, ◌-◌, ◌<◌, Bool, true, cond, ◌&&◌, ltb, List, [], ◌∷◌, ◌++◌, length, get_or, drop, sym, refl, ap, ◌∙◌, ap₂, arith}
 use Rattle.std.proofs.lemmas.Bool.{and_parts, and_from}
 use Rattle.code.specs.Step.{kinds, Env, Step, size, whole, exits, needs, pick, output}
 use Rattle.code.specs.Code.{State, going, done, stuck, follow, branch, each, on_by, begins, step_good, good_on, good, step, next, run, met}
 use Rattle.code.specs.Promise.{Widens}
 use Rattle.code.proofs.Goods.{good_here, exit_good}
-use Rattle.code.proofs.Laws.{needs_whole}
 use Rattle.code.proofs.Theorems.{run_done, run_stuck, Stepped, stepped}
-
-each_same : (f g : ℕ → Bool) (ds : List ℕ) → ((d : ℕ) → f d ≡ g d) → each f ds ≡ each g ds
-unfolding each
-each_same f g [] h = refl
-each_same f g (d ∷ ds) h = ap₂ ◌&&◌ (h d) (each_same f g ds h)
 
 module _ (old new : List ℕ → Step) (widens : Widens old new) (ks : List ℕ) where
   same_here : (r : List ℕ) → good old ks r ≡ true → new r ≡ old r
@@ -31,6 +25,11 @@ module _ (old new : List ℕ → Step) (widens : Widens old new) (ks : List ℕ)
   begins_kept (suc n) (x ∷ xs) zero g = refl
   begins_kept (suc n) (x ∷ xs) (suc k) g = begins_kept n xs k g
 
+  each_kept : (f g : ℕ → Bool) (ds : List ℕ) → ((d : ℕ) → f d ≡ g d) → each f ds ≡ each g ds
+  unfolding each
+  each_kept f g [] h = refl
+  each_kept f g (d ∷ ds) h = ap₂ ◌&&◌ (h d) (each_kept f g ds h)
+
   on_kept : (n : ℕ) (r : List ℕ) → good_on old n ks r ≡ true → good_on new n ks r ≡ true
   unfolding good_on step_good
   on_kept n [] g = refl
@@ -39,7 +38,7 @@ module _ (old new : List ℕ → Step) (widens : Widens old new) (ks : List ℕ)
       let q = same_step (x ∷ xs) p.0 in
       and_from (step_good new ks (x ∷ xs)) _
       (ap (λ (s : Step). needs s ks && each (λ d. begins new zero (x ∷ xs) (size s + d)) (exits s)) q
-      ∙ ap (λ (b : Bool). needs (old (x ∷ xs)) ks && b) (each_same (λ d. begins new zero (x ∷ xs) (size (old (x ∷ xs)) + d)) (λ d. begins old zero (x ∷ xs) (size (old (x ∷ xs)) + d)) (exits (old (x ∷ xs))) (λ d. begins_kept zero (x ∷ xs) (size (old (x ∷ xs)) + d) g))
+      ∙ ap (λ (b : Bool). needs (old (x ∷ xs)) ks && b) (each_kept (λ d. begins new zero (x ∷ xs) (size (old (x ∷ xs)) + d)) (λ d. begins old zero (x ∷ xs) (size (old (x ∷ xs)) + d)) (exits (old (x ∷ xs))) (λ d. begins_kept zero (x ∷ xs) (size (old (x ∷ xs)) + d) g))
       ∙ p.0)
       (ap (λ (s : Step). good_on new (pred (size s)) ks xs) q ∙ on_kept (pred (size (old (x ∷ xs)))) xs p.1)
   on_kept (suc n) (x ∷ xs) g = on_kept n xs g
@@ -92,62 +91,3 @@ module _ (old new : List ℕ → Step) (widens : Widens old new) (ks : List ℕ)
       ap (λ (s : Step). s ∷ branch (λ d. met new b w (on_by new (x ∷ xs) d)) (exits s) (w (x ∷ xs))) same
       ∙ ap (λ (ss : List Step). old (x ∷ xs) ∷ ss) (branch_kept (λ d. met new b w (on_by new (x ∷ xs) d)) (λ d. met old b w (on_by old (x ∷ xs) d)) (exits (old (x ∷ xs))) (w (x ∷ xs)) (λ j l.
       ap (met new b w) (on_by_kept (x ∷ xs) (get_or (exits (old (x ∷ xs))) j 0) same) ∙ met_kept b (on_by old (x ∷ xs) (get_or (exits (old (x ∷ xs))) j 0)) w (exit_good old ks (x ∷ xs) g j 0 l)))
-
--- readers that agree wherever a step begins call the same code good
-module _ (old new : List ℕ → Step) where
-  abbrev pub Agree : ℕ → List ℕ → Type 0
-  Agree n r = (k : ℕ) → begins new n r k ≡ true → new (drop k r) ≡ old (drop k r)
-
-  here_agree : (x : ℕ) (xs : List ℕ) → Agree zero (x ∷ xs) → new (x ∷ xs) ≡ old (x ∷ xs)
-  unfolding begins
-  here_agree x xs a = a 0 refl
-
-  behind_agree : (x : ℕ) (xs : List ℕ) → Agree zero (x ∷ xs) → whole (old (x ∷ xs)) ≡ true → Agree (pred (size (old (x ∷ xs)))) xs
-  unfolding begins
-  behind_agree x xs a w k h =
-      let q = here_agree x xs a in
-      a (suc k) (ap (λ (s : Step). whole s && begins new (pred (size s)) xs k) q ∙ and_from (whole (old (x ∷ xs))) _ w h)
-
-  later_agree : (n x : ℕ) (xs : List ℕ) → Agree (suc n) (x ∷ xs) → Agree n xs
-  unfolding begins
-  later_agree n x xs a k h = a (suc k) h
-
-  begins_agree : (n : ℕ) (r : List ℕ) (k : ℕ) → Agree n r → begins new n r k ≡ begins old n r k
-  unfolding begins
-  begins_agree n [] k a = refl
-  begins_agree zero (x ∷ xs) zero a = refl
-  begins_agree zero (x ∷ xs) (suc k) a =
-      ap (λ (s : Step). whole s && begins new (pred (size s)) xs k) (here_agree x xs a)
-      ∙ go (λ w. begins_agree (pred (size (old (x ∷ xs)))) xs k (behind_agree x xs a w)) (whole (old (x ∷ xs))) refl
-    where
-      go : (whole (old (x ∷ xs)) ≡ true → begins new (pred (size (old (x ∷ xs)))) xs k ≡ begins old (pred (size (old (x ∷ xs)))) xs k) → (b : Bool) → whole (old (x ∷ xs)) ≡ b → (b && begins new (pred (size (old (x ∷ xs)))) xs k) ≡ (b && begins old (pred (size (old (x ∷ xs)))) xs k)
-      go ih true w = ih w
-      go ih false w = refl
-  begins_agree (suc n) (x ∷ xs) zero a = refl
-  begins_agree (suc n) (x ∷ xs) (suc k) a = begins_agree n xs k (later_agree n x xs a)
-
-  step_agree : (ks : List ℕ) (x : ℕ) (xs : List ℕ) → Agree zero (x ∷ xs) → step_good new ks (x ∷ xs) ≡ step_good old ks (x ∷ xs)
-  unfolding step_good
-  step_agree ks x xs a =
-      ap (λ (s : Step). needs s ks && each (λ d. begins new zero (x ∷ xs) (size s + d)) (exits s)) (here_agree x xs a)
-      ∙ ap (λ (b : Bool). needs (old (x ∷ xs)) ks && b) (each_same (λ d. begins new zero (x ∷ xs) (size (old (x ∷ xs)) + d)) (λ d. begins old zero (x ∷ xs) (size (old (x ∷ xs)) + d)) (exits (old (x ∷ xs))) (λ d. begins_agree zero (x ∷ xs) (size (old (x ∷ xs)) + d) a))
-
-  good_step_whole : (ks : List ℕ) (x : ℕ) (xs : List ℕ) → step_good old ks (x ∷ xs) ≡ true → whole (old (x ∷ xs)) ≡ true
-  unfolding step_good
-  good_step_whole ks x xs g = needs_whole (old (x ∷ xs)) ks (and_parts (needs (old (x ∷ xs)) ks) _ g).0
-
-  on_agree : (ks : List ℕ) (n : ℕ) (r : List ℕ) → Agree n r → good_on new n ks r ≡ good_on old n ks r
-  unfolding good_on
-  on_agree ks n [] a = refl
-  on_agree ks zero (x ∷ xs) a =
-      ap₂ (λ (b : Bool) (s : Step). b && good_on new (pred (size s)) ks xs) (step_agree ks x xs a) (here_agree x xs a)
-      ∙ go (λ w. on_agree ks (pred (size (old (x ∷ xs)))) xs (behind_agree x xs a w)) (step_good old ks (x ∷ xs)) refl
-    where
-      go : (whole (old (x ∷ xs)) ≡ true → good_on new (pred (size (old (x ∷ xs)))) ks xs ≡ good_on old (pred (size (old (x ∷ xs)))) ks xs) → (b : Bool) → step_good old ks (x ∷ xs) ≡ b → (b && good_on new (pred (size (old (x ∷ xs)))) ks xs) ≡ (b && good_on old (pred (size (old (x ∷ xs)))) ks xs)
-      go ih true g = ih (good_step_whole ks x xs g)
-      go ih false g = refl
-  on_agree ks (suc n) (x ∷ xs) a = on_agree ks n xs (later_agree n x xs a)
-
-  pub good_agree : (ks c : List ℕ) → Agree zero c → good new ks c ≡ good old ks c
-  unfolding good
-  good_agree ks c a = ap (λ (b : Bool). ltb 0 (length c) && b) (on_agree ks zero c a)

@@ -1,6 +1,6 @@
 -- What is promised of all code. Each is a statement, a type whose proof is owed by the function that names it. Assumes nothing.
-use Rattle.std.specs.Prelude.{◌≡◌, ℕ, zero, ◌+◌, ◌*◌, ◌<◌, ◌≤◌, true, false, ◌⊎◌, List, [], ◌∷◌, ◌++◌, length, drop, slice_index}
-use Rattle.code.specs.Step.{text, number, kinds, value_at, Env, shown, Step, size, whole, exits, needs, Table, read_by, decode, decode_saying}
+use Rattle.std.specs.Prelude.{◌≡◌, ℕ, zero, ◌+◌, ◌*◌, ◌<◌, ◌≤◌, true, false, List, [], ◌∷◌, ◌++◌, length, drop, slice_index}
+use Rattle.code.specs.Step.{kinds, Env, shown, Step, size, whole, exits, needs, Table, read_by, decode}
 use Rattle.code.specs.Code.{State, going, done, stuck, next, run, bad_at, good, met, outputs, way}
 
 -- the locale's classes are 0 to 5
@@ -33,16 +33,6 @@ NotTooLong =
     → ((i : ℕ) → i < length e.arguments → length (shown e i) ≤ m)
     → run decode b e (going c []) ≡ done u
     → length u ≤ length c * m
-
--- two environments tell the same, put the numbers told in the same classes, and write them in the same way
-pub record Alike (e f : Env) : Type 0 where
-  pub arguments : e.arguments ≡ f.arguments
-  pub class : (i n : ℕ) → value_at e.arguments i ≡ number n → e.class n ≡ f.class n
-  pub figures : (i n : ℕ) → value_at e.arguments i ≡ number n → e.figures n ≡ f.figures n
-
--- then the same code runs in the same way
-abbrev pub OnlyClasses : Type 0
-OnlyClasses = (s : State) (e f : Env) (b : ℕ) → Alike e f → run decode b e s ≡ run decode b f s
 
 -- the same, with something behind what is left
 abbrev pub behind : List ℕ → State → State
@@ -112,35 +102,17 @@ Kept =
     × ((b : ℕ) (e : Env) → run new b e (going c []) ≡ run old b e (going c []))
     × ((b : ℕ) (w : List ℕ → ℕ) → met new b w c ≡ met old b w c)
 
--- no step begins with a byte of the rows that choose and go on
-abbrev pub WithoutChoosing : List ℕ → Type 0
-WithoutChoosing c = (p : ℕ) → Begins c p → (slice_index c p < 3) ⊎ (4 < slice_index c p)
-
--- choosing and going on widen the rows that say: code that was good is good, runs as it did and meets the same steps on every way; and code without the new steps is good exactly if it was
-abbrev pub ChoosingWidens : Type 0
-ChoosingWidens =
-    (ks c : List ℕ)
-    → (good decode_saying ks c ≡ true
-    → (good decode ks c ≡ true)
-    × ((b : ℕ) (e : Env) → run decode b e (going c []) ≡ run decode_saying b e (going c []))
-    × ((b : ℕ) (w : List ℕ → ℕ) → met decode b w c ≡ met decode_saying b w c))
-    × (WithoutChoosing c → good decode ks c ≡ good decode_saying ks c)
-
--- the table, a line for each row, and what is stuck: another byte, a place behind the end, something that it wasn't told, a class of what isn't a number or that has no distance, a step that is cut
+-- the table, a line for each row, and what is stuck: another byte, a place behind the end, something that it wasn't told
 pub record Rows (e : Env) (xs out : List ℕ) : Type 0 where
   pub row_0 : next decode e (going (0 ∷ xs) out) ≡ done out
   pub row_1 : (t : List ℕ) → next decode e (going (1 ∷ length t ∷ (t ++ xs)) out) ≡ going xs (out ++ t)
   pub row_2 : (i : ℕ) → i < length e.arguments → next decode e (going (2 ∷ i ∷ xs) out) ≡ going xs (out ++ shown e i)
-  pub row_3 : (i n a b c d f g : ℕ) → i < length e.arguments → value_at e.arguments i ≡ number n → e.class n < 6 → next decode e (going (3 ∷ i ∷ a ∷ b ∷ c ∷ d ∷ f ∷ g ∷ xs) out) ≡ going (drop (slice_index (a ∷ b ∷ c ∷ d ∷ f ∷ g ∷ []) (e.class n)) xs) out
-  pub row_4 : (d : ℕ) → next decode e (going (4 ∷ d ∷ xs) out) ≡ going (drop d xs) out
-  pub no_row : (x : ℕ) → 5 ≤ x → next decode e (going (x ∷ xs) out) ≡ stuck
+  pub no_row : (x : ℕ) → 3 ≤ x → next decode e (going (x ∷ xs) out) ≡ stuck
   pub no_byte : next decode e (going [] out) ≡ stuck
   pub no_argument : (i : ℕ) → length e.arguments ≤ i → next decode e (going (2 ∷ i ∷ xs) out) ≡ stuck
-  pub no_number : (i : ℕ) (t : List ℕ) → value_at e.arguments i ≡ text t → next decode e (going (3 ∷ i ∷ xs) out) ≡ stuck
-  pub no_class : (i n : ℕ) → value_at e.arguments i ≡ number n → 6 ≤ e.class n → next decode e (going (3 ∷ i ∷ xs) out) ≡ stuck
   pub no_letters : (n : ℕ) → length xs < n → next decode e (going (1 ∷ n ∷ xs) out) ≡ stuck
-  pub no_distances : (i : ℕ) → length xs < 6 → next decode e (going (3 ∷ i ∷ xs) out) ≡ stuck
-  pub alone : (x : ℕ) → 1 ≤ x → next decode e (going (x ∷ []) out) ≡ stuck
+  pub no_count : next decode e (going (1 ∷ []) out) ≡ stuck
+  pub no_number : next decode e (going (2 ∷ []) out) ≡ stuck
 
 -- each step does what its row says, whatever was said before and is left behind it
 abbrev pub ByTable : Type 0

@@ -1,5 +1,5 @@
 -- The steps of a message's code: what each one is, how it is read, and what it asks, says and leads to. Assumes nothing: these are definitions.
-use Rattle.std.specs.Prelude.{ℕ, ◌+◌, Bool, true, false, cond, ◌&&◌, List, [], ◌∷◌, ◌++◌, length, take, drop, ◌==◌, nat_le, nat_lt, slice_index, slice_index_or}
+use Rattle.std.specs.Prelude.{ℕ, ◌+◌, Bool, true, false, cond, List, [], ◌∷◌, length, take, drop, ◌==◌, nat_le, nat_lt, slice_index_or}
 
 -- what a message is told: a text, of kind 0, or a number, of kind 1
 pub data Value : Type 0 where
@@ -20,15 +20,6 @@ kinds (v ∷ vs) = kind v ∷ kinds vs
 unfoldable pub value_at : List Value → ℕ → Value
 value_at vs i = slice_index_or vs i (text [])
 
--- whether the argument of this number is told and is a number, by the kinds
-unfoldable pub numbered : List ℕ → ℕ → Bool
-numbered ks i = nat_lt i (length ks) && slice_index ks i == 1
-
--- the number that an argument is; a text is none, and nothing asks for its
-unfoldable pub as_number : Value → ℕ
-as_number (text t) = 0
-as_number (number n) = n
-
 -- all that a step may look at besides the code: the locale's class of a number and its figures, and the arguments
 pub record Env : Type 0 where
   pub class : ℕ → ℕ
@@ -44,17 +35,11 @@ shown_by f (number n) = f n
 abbrev pub shown : Env → ℕ → List ℕ
 shown e i = shown_by e.figures (value_at e.arguments i)
 
--- the plural class of the argument of this number
-unfoldable pub class_at : Env → ℕ → ℕ
-class_at e i = e.class (as_number (value_at e.arguments i))
-
 -- what a step is. A first byte that the table lacks is unknown; a step whose bytes are not all there is cut
 pub data Step : Type 0 where
   ends : Step
   letters : List ℕ → Step
   argument : ℕ → Step
-  select : ℕ → List ℕ → Step
-  skip : ℕ → Step
   unknown : ℕ → Step
   cut : Step
 
@@ -63,8 +48,6 @@ unfoldable pub size : Step → ℕ
 size ends = 1
 size (letters t) = 2 + length t
 size (argument i) = 2
-size (select i ds) = 2 + length ds
-size (skip d) = 2
 size (unknown x) = 2
 size cut = 1
 
@@ -73,8 +56,6 @@ unfoldable pub whole : Step → Bool
 whole ends = true
 whole (letters t) = true
 whole (argument i) = true
-whole (select i ds) = true
-whole (skip d) = true
 whole (unknown x) = true
 whole cut = false
 
@@ -83,8 +64,6 @@ unfoldable pub exits : Step → List ℕ
 exits ends = []
 exits (letters t) = 0 ∷ []
 exits (argument i) = 0 ∷ []
-exits (select i ds) = ds
-exits (skip d) = d ∷ []
 exits (unknown x) = []
 exits cut = []
 
@@ -93,8 +72,6 @@ unfoldable pub needs : Step → List ℕ → Bool
 needs ends ks = true
 needs (letters t) ks = true
 needs (argument i) ks = nat_lt i (length ks)
-needs (select i ds) ks = length ds == 6 && numbered ks i
-needs (skip d) ks = true
 needs (unknown x) ks = false
 needs cut ks = false
 
@@ -103,8 +80,6 @@ unfoldable pub pick : Step → Env → ℕ
 pick ends e = 0
 pick (letters t) e = 0
 pick (argument i) e = 0
-pick (select i ds) e = class_at e i
-pick (skip d) e = 0
 pick (unknown x) e = 0
 pick cut e = 0
 
@@ -113,8 +88,6 @@ unfoldable pub output : Step → Env → List ℕ
 output ends e = []
 output (letters t) e = t
 output (argument i) e = shown e i
-output (select i ds) e = []
-output (skip d) e = []
 output (unknown x) e = []
 output cut e = []
 
@@ -140,29 +113,14 @@ find (t ∷ ts) x xs = cond (x == t.0) (t.1 xs) (find ts x xs)
 unfoldable pub read_by : Table → List ℕ → Step
 read_by t r = byte (find t) r
 
--- the rows that say: 0 ends; 1 n and n letters says these; 2 i says argument i
-unfoldable pub saying_rows : Table
-saying_rows =
+-- the table of the code: 0 ends; 1 n and n letters says these; 2 i says argument i
+unfoldable pub table : Table
+table =
     (0, λ xs. ends)
     ∷ (1, λ xs. byte (λ n ys. part n (λ t zs. letters t) ys) xs)
     ∷ (2, λ xs. byte (λ i ys. argument i) xs)
     ∷ []
 
--- the rows that choose and go on: 3 i and six distances goes on by that of the class of argument i; 4 d goes on by d
-unfoldable pub choosing_rows : Table
-choosing_rows =
-    (3, λ xs. byte (λ i ys. part 6 (λ ds zs. select i ds) ys) xs)
-    ∷ (4, λ xs. byte (λ d ys. skip d) xs)
-    ∷ []
-
--- the table of the code
-unfoldable pub table : Table
-table = saying_rows ++ choosing_rows
-
 -- the step at the front of what is left of the code
 unfoldable pub decode : List ℕ → Step
 decode r = read_by table r
-
--- the same, by the rows that say alone
-unfoldable pub decode_saying : List ℕ → Step
-decode_saying r = read_by saying_rows r

@@ -28,12 +28,7 @@ impl<'a> Code<'a> {
                 &bytes[2..*n as usize + 2],
             ),
             [2, i, ..] => Step::Argument(*i),
-            [3, argument, a, b, c, d, e, f, ..] => Step::Select {
-                argument: *argument,
-                distances: [*a, *b, *c, *d, *e, *f],
-            },
-            [4, distance, ..] => Step::Skip(*distance),
-            [0..=4, ..] | [] => Step::Cut,
+            [0..=2, ..] | [] => Step::Cut,
             [x, ..] => Step::Unknown(*x),
         }
     }

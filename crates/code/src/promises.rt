@@ -1,54 +1,68 @@
 // What is promised of all code: each function carries one theorem, and does nothing else.
-ghost use Rattle.code.specs.Promise.{NeverStuck, MoreBudget, Resumes, NotTooLong, AddedBehind, SaidOnWay, GoodExactly, FirstBad, Kept, RowsWiden, ChoosingWidens, ByTable, OnlyClasses};
+ghost use Rattle.code.specs.Promise.{NeverStuck, MoreBudget, Resumes, NotTooLong, AddedBehind, SaidOnWay, GoodExactly, FirstBad, Kept, RowsWiden, ByTable};
 
-pub fn never_stuck()
+pub fn never_stuck() -> u8
     ensures { NeverStuck }
-{}
+{
+    0
+}
 
-pub fn more_budget()
+pub fn more_budget() -> u8
     ensures { MoreBudget }
-{}
+{
+    0
+}
 
-pub fn resumes()
+pub fn resumes() -> u8
     ensures { Resumes }
-{}
+{
+    0
+}
 
-pub fn not_too_long()
+pub fn not_too_long() -> u8
     ensures { NotTooLong }
-{}
+{
+    0
+}
 
-pub fn only_classes()
-    ensures { OnlyClasses }
-{}
-
-pub fn added_behind()
+pub fn added_behind() -> u8
     ensures { AddedBehind }
-{}
+{
+    0
+}
 
-pub fn said_on_way()
+pub fn said_on_way() -> u8
     ensures { SaidOnWay }
-{}
+{
+    0
+}
 
-pub fn good_exactly()
+pub fn good_exactly() -> u8
     ensures { GoodExactly }
-{}
+{
+    0
+}
 
-pub fn first_bad()
+pub fn first_bad() -> u8
     ensures { FirstBad }
-{}
+{
+    0
+}
 
-pub fn kept()
+pub fn kept() -> u8
     ensures { Kept }
-{}
+{
+    0
+}
 
-pub fn rows_widen()
+pub fn rows_widen() -> u8
     ensures { RowsWiden }
-{}
+{
+    0
+}
 
-pub fn choosing_widens()
-    ensures { ChoosingWidens }
-{}
-
-pub fn by_table()
+pub fn by_table() -> u8
     ensures { ByTable }
-{}
+{
+    0
+}

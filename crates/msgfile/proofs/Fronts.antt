@@ -2,7 +2,7 @@
 use Rattle.std.proofs.Common.{◌≡◌, ℕ, suc, ◌+◌, ◌<◌, ◌≤◌, Bool, true, false, cond, ◌&&◌, eqb, leb, List, [], ◌∷◌, length, get_or, drop, Some, None, refl, ap, ◌∙◌, ap₂, arith}
 use Rattle.std.proofs.lemmas.Bool.{false≢true, and_parts, and_right, eq-eqb, ne_eqb}
 use Rattle.std.proofs.lemmas.List.{drop_more, drop_all}
-use Rattle.msgfile.specs.declared.position.Position.{Position}
+use Rattle.msgfile.specs.declared.place.Position.{Position}
 use Rattle.msgfile.specs.Text.{span, skip, skip_on, skipped, same, moved_on, position_from}
 
 span_cons : (p : ℕ → Bool) (b : ℕ) (bs : List ℕ) → span p (b ∷ bs) ≡ cond (p b) (suc (span p bs)) 0

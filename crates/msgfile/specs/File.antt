@@ -1,8 +1,9 @@
 -- A message file: what is told, on a line of its own, and then the code. Assumes nothing: these are definitions.
-use Rattle.std.specs.Prelude.{ℕ, ◌+◌, ◌<◌, false, cond, List, [], length, take, drop, Ok, Err, vec_items, codes, Result}
+use Rattle.std.specs.Prelude.{◌≡◌, ℕ, ◌+◌, ◌<◌, false, cond, List, [], length, take, drop, Ok, Err, vec_items, codes, Result}
 use Rattle.msgfile.specs.Text.{wordy, lined, span, skipped, same}
-use Rattle.msgfile.specs.Numbers.{code_in}
+use Rattle.msgfile.specs.Numbers.{numbers_in}
 use Rattle.msgfile.specs.Told.{told_in}
+use Rattle.msgfile.specs.Read.{as_numbers}
 use Rattle.msgfile.specs.declared.fault.Expected.{Expected}
 use Rattle.msgfile.specs.declared.fault.ReadError as error
 use Rattle.msgfile.specs.declared.source.Source.{Source}
@@ -30,16 +31,20 @@ both (Err f) c = Err f
 
 -- behind the word `told` its line has the kinds, and what is behind the line is code
 abbrev pub told_then : List ℕ → Result (List ℕ × List ℕ) (Expected × ℕ)
-told_then bs = both (further (length (drop (span lined bs) bs)) (told_in (take (span lined bs) bs))) (code_in (drop (span lined bs) bs))
+told_then bs = both (further (length (drop (span lined bs) bs)) (told_in (take (span lined bs) bs))) (as_numbers (numbers_in (drop (span lined bs) bs)))
 
 -- without that word nothing is told
 abbrev pub body_in : List ℕ → Result (List ℕ × List ℕ) (Expected × ℕ)
-body_in bs = cond (same (take (span wordy bs) bs) (codes "told")) (told_then (drop 4 bs)) (both (Ok []) (code_in bs))
+body_in bs = cond (same (take (span wordy bs) bs) (codes "told")) (told_then (drop 4 bs)) (both (Ok []) (as_numbers (numbers_in bs)))
 
 -- a whole file: spaces and comments, and then that
 abbrev pub message_in : List ℕ → Result (List ℕ × List ℕ) (Expected × ℕ)
 message_in bs = body_in (drop (skipped false bs) bs)
 
--- what a file holds: the kinds and the code
-abbrev pub held : Source → List ℕ × List ℕ
-held s = (vec_items s.kinds, vec_items s.code)
+-- what is answered is what the text says; want of memory may always come
+abbrev pub FileRead : Result Source error.ReadError → Result (List ℕ × List ℕ) (Expected × ℕ) → Type 0
+FileRead (Ok s) (Ok m) = (vec_items s.kinds ≡ m.0) × (vec_items s.code ≡ m.1)
+FileRead (Ok s) (Err f) = ⊥
+FileRead (Err (error.TheVariants.Wrong e n)) (Ok m) = ⊥
+FileRead (Err (error.TheVariants.Wrong e n)) (Err f) = (e ≡ f.0) × (n ≡ f.1)
+FileRead (Err error.TheVariants.Memory) m = Unit {0}

@@ -1,66 +1,53 @@
--- Numbers as text, up to a greatest one, with spaces or comments between. Assumes nothing: these are definitions.
+-- Code as text: numbers from 0 to 255 with spaces or comments between. Assumes nothing: these are definitions.
 use Rattle.std.specs.Prelude.{ℕ, ◌+◌, ◌-◌, ◌*◌, Bool, cond, ◌&&◌, List, [], ◌∷◌, ◌++◌, length, Some, None, Ok, Err, Option, Result, ◌==◌, nat_le}
 use Rattle.plural.specs.Figures.{figures}
 use Rattle.msgfile.specs.Text.{space}
-use Rattle.msgfile.specs.declared.fault.Expected as expected
-use Rattle.msgfile.specs.declared.numbers.Reading as reading
+use Rattle.msgfile.specs.declared.numbers.Place as place
 
 -- a figure, 0 to 9
 abbrev pub digit : ℕ → Bool
 digit b = nat_le 48 b && nat_le b 57
 
--- a figure behind a number that was read, if the number doesn't become greater than it may
-abbrev pub figure_on : (most n : ℕ) → ℕ → Option reading.Reading
-figure_on most n b = cond (digit b && nat_le (10 * n + (b - 48)) most) (Some (reading.TheVariants.Number (10 * n + (b - 48)))) None
+-- one byte more: between numbers or behind a comment a number may begin; a number ends at a space or a comment, and stays below 256. Nothing, if the byte doesn't belong there
+abbrev pub feed : place.Place → ℕ → Option place.Place
+feed place.TheVariants.Between b =
+    cond (space b) (Some place.TheVariants.Between)
+    (cond (b == 35) (Some place.TheVariants.Comment)
+    (cond (digit b) (Some (place.TheVariants.Number (b - 48))) None))
+feed (place.TheVariants.Number n) b =
+    cond (space b) (Some place.TheVariants.Between)
+    (cond (b == 35) (Some place.TheVariants.Comment)
+    (cond (digit b && nat_le (10 * n + (b - 48)) 255) (Some (place.TheVariants.Number (10 * n + (b - 48)))) None))
+feed place.TheVariants.Comment b = cond (b == 10) (Some place.TheVariants.Between) (Some place.TheVariants.Comment)
 
--- a byte that is in no comment, behind so much of a number: a space or the beginning of a comment ends the number, a figure goes on with it, and another byte doesn't belong there
-abbrev pub outside : (most n : ℕ) → ℕ → Option reading.Reading
-outside most n b =
-    cond (space b) (Some reading.TheVariants.Between)
-    (cond (b == 35) (Some reading.TheVariants.Comment) (figure_on most n b))
-
--- one byte more: between numbers one may begin, as behind a nought; a comment runs to the end of its line. Nothing, if the byte doesn't belong there
-abbrev pub feed : (most : ℕ) → reading.Reading → ℕ → Option reading.Reading
-feed most reading.TheVariants.Between b = outside most 0 b
-feed most (reading.TheVariants.Number n) b = outside most n b
-feed most reading.TheVariants.Comment b = cond (b == 10) (Some reading.TheVariants.Between) (Some reading.TheVariants.Comment)
-
--- the number that ends where the reading goes on
-abbrev pub ended : (from to : reading.Reading) → List ℕ
-ended reading.TheVariants.Between q = []
-ended (reading.TheVariants.Number n) reading.TheVariants.Between = n ∷ []
-ended (reading.TheVariants.Number n) (reading.TheVariants.Number m) = []
-ended (reading.TheVariants.Number n) reading.TheVariants.Comment = n ∷ []
-ended reading.TheVariants.Comment q = []
+-- the number that ends where the reading goes on to another place
+abbrev pub ended : (from to : place.Place) → List ℕ
+ended place.TheVariants.Between q = []
+ended (place.TheVariants.Number n) place.TheVariants.Between = n ∷ []
+ended (place.TheVariants.Number n) (place.TheVariants.Number m) = []
+ended (place.TheVariants.Number n) place.TheVariants.Comment = n ∷ []
+ended place.TheVariants.Comment q = []
 
 -- numbers before those that are read; a fault stays a fault
-abbrev pub with : List ℕ → Result (List ℕ) (expected.Expected × ℕ) → Result (List ℕ) (expected.Expected × ℕ)
+abbrev pub with : List ℕ → Result (List ℕ) ℕ → Result (List ℕ) ℕ
 with ns (Ok ms) = Ok (ns ++ ms)
-with ns (Err f) = Err f
+with ns (Err k) = Err k
 
 -- what comes of a byte: a fault with so much left, or the number that it ends and then the rest
-abbrev pub going_on : (most : ℕ) → (reading.Reading → Result (List ℕ) (expected.Expected × ℕ)) → ℕ → reading.Reading → Option reading.Reading → Result (List ℕ) (expected.Expected × ℕ)
-going_on most on k p None = Err (expected.TheVariants.Number most, k)
-going_on most on k p (Some q) = with (ended p q) (on q)
+abbrev pub going_on : (place.Place → Result (List ℕ) ℕ) → ℕ → place.Place → Option place.Place → Result (List ℕ) ℕ
+going_on on k p None = Err k
+going_on on k p (Some q) = with (ended p q) (on q)
 
--- the numbers of a text, or what is expected and how much is left where a byte doesn't belong; the end of the text ends a number as a space does
-unfoldable pub numbers_from : (most : ℕ) → reading.Reading → List ℕ → Result (List ℕ) (expected.Expected × ℕ)
-numbers_from most p [] = Ok (ended p reading.TheVariants.Between)
-numbers_from most p (b ∷ bs) = going_on most (λ q. numbers_from most q bs) (length (b ∷ bs)) p (feed most p b)
+-- the numbers of a text, or how much of it is left where a byte doesn't belong; the end of the text ends a number as a space does
+unfoldable pub numbers_from : place.Place → List ℕ → Result (List ℕ) ℕ
+numbers_from p [] = Ok (ended p place.TheVariants.Between)
+numbers_from p (b ∷ bs) = going_on (λ q. numbers_from q bs) (length (b ∷ bs)) p (feed p b)
 
 -- the numbers of a whole text
-abbrev pub numbers_in : (most : ℕ) → List ℕ → Result (List ℕ) (expected.Expected × ℕ)
-numbers_in most bs = numbers_from most reading.TheVariants.Between bs
+abbrev pub numbers_in : List ℕ → Result (List ℕ) ℕ
+numbers_in bs = numbers_from place.TheVariants.Between bs
 
--- code: each number is a byte
-abbrev pub code_in : List ℕ → Result (List ℕ) (expected.Expected × ℕ)
-code_in bs = numbers_in 255 bs
-
--- the numbers of rules: each is below 2^64
-abbrev pub rule_numbers_in : List ℕ → Result (List ℕ) (expected.Expected × ℕ)
-rule_numbers_in bs = numbers_in 18446744073709551615 bs
-
--- numbers written as such a text
+-- code written as such a text
 unfoldable pub written : List ℕ → List ℕ
 written [] = []
 written (n ∷ ns) = figures n ++ (32 ∷ written ns)

@@ -3,7 +3,7 @@ use Rattle.std.specs.Prelude.{◌≡◌, ℕ, ◌≤◌, List, ◌++◌, None, O
 use Rattle.msgfile.specs.declared.fault.Expected.{Expected}
 use Rattle.msgfile.specs.declared.fault.Expected.TheVariants.{Number}
 use Rattle.msgfile.specs.declared.fault.ReadError as error
-use Rattle.msgfile.specs.declared.numbers.Reading.{Reading}
+use Rattle.msgfile.specs.declared.numbers.Place.{Place}
 
 -- what is read is added behind; what is expected, and how much of the text is left there, is answered; want of memory may always come
 abbrev pub Reads : {A : Type 0} → (before after : List ℕ) → Result A error.ReadError → Result (List ℕ) (Expected × ℕ) → Type 0
@@ -13,20 +13,15 @@ Reads a b (Err (error.TheVariants.Wrong e n)) (Ok ns) = ⊥
 Reads a b (Err (error.TheVariants.Wrong e n)) (Err f) = (e ≡ f.0) × (n ≡ f.1)
 Reads a b (Err error.TheVariants.Memory) r = Unit {0}
 
--- what was expected, and how much is left there, is what the text lacks; want of memory may always come
-abbrev pub FailedAs : {B : Type 0} → error.ReadError → Result B (Expected × ℕ) → Type 0
-FailedAs (error.TheVariants.Wrong e n) t = t ≡ Err (e, n)
-FailedAs error.TheVariants.Memory t = Unit {0}
-
--- what is answered holds what the text says, or it failed
-abbrev pub ReadAs : {A B : Type 0} → (held : A → B) → Result A error.ReadError → Result B (Expected × ℕ) → Type 0
-ReadAs held (Ok x) t = t ≡ Ok (held x)
-ReadAs held (Err e) t = FailedAs e t
+-- numbers are expected all along
+abbrev pub as_numbers : Result (List ℕ) ℕ → Result (List ℕ) (Expected × ℕ)
+as_numbers (Ok ns) = Ok ns
+as_numbers (Err n) = Err (Number, n)
 
 -- one byte that doesn't belong, with so much left; or want of memory
-abbrev pub Turned : (most : ℕ) → error.ReadError → ℕ → Option Reading → Type 0
-Turned most (error.TheVariants.Wrong e n) left o = (e ≡ Number most) × (n ≡ left) × (o ≡ None)
-Turned most error.TheVariants.Memory left o = Unit {0}
+abbrev pub Turned : error.ReadError → ℕ → Option Place → Type 0
+Turned (error.TheVariants.Wrong e n) left o = (e ≡ Number) × (n ≡ left) × (o ≡ None)
+Turned error.TheVariants.Memory left o = Unit {0}
 
 -- one thing's kind, and what is left behind it
 abbrev pub ThingRead : Result ℕ error.ReadError → List ℕ → Result (ℕ × List ℕ) (Expected × ℕ) → Type 0

@@ -3,8 +3,8 @@
 // What was expected.
 #[derive(Clone, Copy)]
 pub enum Expected {
-    // A number of at most this.
-    Number(u64),
+    // A number from 0 to 255.
+    Number,
     // A name of a thing told.
     Name,
     // `text` or `number`.

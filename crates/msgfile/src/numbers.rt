@@ -1,66 +1,47 @@
-// Numbers as text, up to a greatest one, with spaces or comments between.
-ghost use Rattle.std.specs.Prelude.{◌≡◌, ◌++◌, Some, vec_items, MatchResult};
-ghost use Rattle.msgfile.specs.Numbers.{figure_on, outside, feed, ended, numbers_in};
-ghost use Rattle.msgfile.specs.Read.{ReadAs, Turned};
+// Code as text: numbers from 0 to 255 with spaces or comments between.
+ghost use Rattle.std.specs.Prelude.{◌≡◌, ◌++◌, length, Some, MatchResult};
+ghost use Rattle.msgfile.specs.Numbers.{feed, ended, numbers_in};
+ghost use Rattle.msgfile.specs.Read.{Reads, as_numbers, Turned, LeftWithin};
 
 use crate::fault::{Expected, ReadError};
-use crate::words::is_space;
-use std::alloc::Global;
 
 // Where the reading of numbers stands.
 #[derive(Clone, Copy)]
-pub(crate) enum Reading {
+pub(crate) enum Place {
     Between,
-    Number(u64),
+    Number(u8),
     Comment,
 }
 
-// A figure behind a number that was read; none, if it is no figure, or the number would be too great.
-fn figure_on(most: u64, n: u64, byte: u8) -> Option<Reading>
-    ensures { result ≡ figure_on most n byte }
-{
-    if byte < b'0' || byte > b'9' {
-        return None;
-    }
-    let digit = (byte - b'0') as u64;
-    if digit > most || n > (most - digit) / 10 {
-        return None;
-    }
-    Some(Reading::Number(10 * n + digit))
-}
-
-// One byte that is in no comment, behind so much of a number.
-fn outside(most: u64, n: u64, byte: u8) -> Option<Reading>
-    ensures { result ≡ outside most n byte }
-{
-    if is_space(byte) {
-        Some(Reading::Between)
-    } else if byte == b'#' {
-        Some(Reading::Comment)
-    } else {
-        figure_on(most, n, byte)
-    }
-}
-
 // One byte more.
-fn feed(most: u64, reading: Reading, byte: u8) -> Option<Reading>
-    ensures { result ≡ feed most reading byte }
+fn feed(place: Place, byte: u8) -> Option<Place>
+    ensures { result ≡ feed place byte }
 {
-    match reading {
-        Reading::Between => outside(most, 0, byte),
-        Reading::Number(n) => outside(most, n, byte),
-        Reading::Comment if byte == b'\n' => Some(Reading::Between),
-        Reading::Comment => Some(Reading::Comment),
+    match (place, byte) {
+        (Place::Comment, b'\n') => Some(Place::Between),
+        (Place::Comment, _) => Some(Place::Comment),
+        (_, b' ' | b'\t' | b'\r' | b'\n') => Some(Place::Between),
+        (_, b'#') => Some(Place::Comment),
+        (Place::Between, b'0'..=b'9') => Some(Place::Number(byte - b'0')),
+        (Place::Number(n), b'0'..=b'9') => {
+            let digit = byte - b'0';
+            if n > (255 - digit) / 10 {
+                None
+            } else {
+                Some(Place::Number(10 * n + digit))
+            }
+        }
+        _ => None,
     }
 }
 
 // Where a number ends, it is added.
-fn add_ended(from: Reading, to: Reading, numbers: &mut Vec<u64>) -> Result<(), ReadError>
-    ensures { MatchResult result (λ _. numbers.new.items ≡ numbers.old.items ++ ended from to) (λ e. e ≡ ReadError.Memory) }
+fn add_ended(from: Place, to: Place, code: &mut Vec<u8>) -> Result<(), ReadError>
+    ensures { MatchResult result (λ _. code.new.items ≡ code.old.items ++ ended from to) (λ e. e ≡ ReadError.Memory) }
 {
     match (from, to) {
-        (Reading::Number(n), Reading::Between | Reading::Comment) => {
-            if numbers.push(n).is_err() {
+        (Place::Number(n), Place::Between | Place::Comment) => {
+            if code.push(n).is_err() {
                 return Err(ReadError::Memory);
             }
             Ok(())
@@ -70,31 +51,24 @@ fn add_ended(from: Reading, to: Reading, numbers: &mut Vec<u64>) -> Result<(), R
 }
 
 // One byte of the text, of which so much is left.
-fn turn(
-    most: u64,
-    reading: Reading,
-    byte: u8,
-    left: usize,
-    numbers: &mut Vec<u64>,
-) -> Result<Reading, ReadError>
-    ensures { MatchResult result (λ q. (feed most reading byte ≡ Some q) × (numbers.new.items ≡ numbers.old.items ++ ended reading q)) (λ e. Turned most e left (feed most reading byte)) }
+fn turn(place: Place, byte: u8, left: usize, code: &mut Vec<u8>) -> Result<Place, ReadError>
+    ensures { MatchResult result (λ q. (feed place byte ≡ Some q) × (code.new.items ≡ code.old.items ++ ended place q)) (λ e. Turned e left (feed place byte)) }
 {
-    let Some(next) = feed(most, reading, byte) else {
-        return Err(ReadError::Wrong(Expected::Number(most), left));
+    let Some(next) = feed(place, byte) else {
+        return Err(ReadError::Wrong(Expected::Number, left));
     };
-    add_ended(reading, next, numbers)?;
+    add_ended(place, next, code)?;
     Ok(next)
 }
 
-// The numbers of a text.
-pub(crate) fn read_numbers(heap: Global, text: &[u8], most: u64) -> Result<Vec<u64>, ReadError>
-    ensures { ReadAs vec_items result (numbers_in most text.now) }
+// Adds the numbers of a text to the code.
+pub(crate) fn read_numbers(text: &[u8], code: &mut Vec<u8>) -> Result<(), ReadError>
+    ensures numbers { Reads code.old.items code.new.items result (as_numbers (numbers_in text.now)) }
+    ensures within { LeftWithin (length text.now) result }
 {
-    let mut numbers = Vec::new(heap);
-    let mut reading = Reading::Between;
+    let mut place = Place::Between;
     for (at, byte) in text.iter().enumerate() {
-        reading = turn(most, reading, *byte, text.len() - at, &mut numbers)?;
+        place = turn(place, *byte, text.len() - at, code)?;
     }
-    add_ended(reading, Reading::Between, &mut numbers)?;
-    Ok(numbers)
+    add_ended(place, Place::Between, code)
 }

@@ -1,12 +1,8 @@
-// A place in a text by line and column, as a person counts.
+// Where a fault is, by line and column.
 ghost use Rattle.std.specs.Prelude.{◌≡◌, ◌+◌, ◌-◌, ◌^◌, ◌<◌, length, take};
 ghost use Rattle.msgfile.specs.Text.{moved_on, position_from, start};
 
-#[derive(Clone, Copy)]
-pub struct Position {
-    pub line: usize,
-    pub column: usize,
-}
+use crate::place::Position;
 
 // One byte further.
 fn moved_on(position: Position, byte: u8) -> Position

@@ -1,26 +1,20 @@
 // Text by its bytes: how long a front of one class, or of spaces and comments, is.
 ghost use Rattle.std.specs.Prelude.{◌≡◌, ◌≤◌, false, length};
-ghost use Rattle.msgfile.specs.Text.{blank, space, belongs, span, skip, skipped, same};
+ghost use Rattle.msgfile.specs.Text.{space, belongs, span, skip, skipped, same};
 
 use crate::class::Class;
 
-fn is_blank(byte: u8) -> bool
-    ensures { result ≡ blank byte }
-{
-    matches!(byte, b' ' | b'\t' | b'\r')
-}
-
-pub(crate) fn is_space(byte: u8) -> bool
+fn is_space(byte: u8) -> bool
     ensures { result ≡ space byte }
 {
-    is_blank(byte) || byte == b'\n'
+    matches!(byte, b' ' | b'\t' | b'\r' | b'\n')
 }
 
 fn belongs(class: Class, byte: u8) -> bool
     ensures { result ≡ belongs class byte }
 {
     match class {
-        Class::Blank => is_blank(byte),
+        Class::Blank => matches!(byte, b' ' | b'\t' | b'\r'),
         Class::Word => !is_space(byte) && byte != b',' && byte != b'#',
         Class::Line => byte != b'\n' && byte != b'#',
     }

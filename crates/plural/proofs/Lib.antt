@@ -1,4 +1,3 @@
--- Lemmas by topic: Written on figures, Ruled on rules that pass, Classed on the class of a number.
+-- Lemmas by topic: Written on figures, Ruled on rules and classes.
 pub mod Written
 pub mod Ruled
-pub mod Classed

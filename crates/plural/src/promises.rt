@@ -1,18 +1,20 @@
 // What is promised of figures and classes: each function carries one theorem, and does nothing else.
-ghost use Rattle.plural.specs.Promise.{FiguresExactly, FiguresReadBack, ClassesBelowSix, ClassExactly};
+ghost use Rattle.plural.specs.Promise.{FiguresExactly, FiguresReadBack, ClassesBelowSix};
 
-pub fn figures_exactly()
+pub fn figures_exactly() -> u8
     ensures { FiguresExactly }
-{}
+{
+    0
+}
 
-pub fn figures_read_back()
+pub fn figures_read_back() -> u8
     ensures { FiguresReadBack }
-{}
+{
+    0
+}
 
-pub fn classes_below_six()
+pub fn classes_below_six() -> u8
     ensures { ClassesBelowSix }
-{}
-
-pub fn class_exactly()
-    ensures { ClassExactly }
-{}
+{
+    0
+}

@@ -11,10 +11,6 @@ use Rattle.render.specs.Saying.{Within, SaidWithin}
 pub holds_none : (at : ℕ) (room t : List ℕ) → t ≡ [] → Holds at room t at room
 holds_none at room t q = record { place = omega (arith, ap length q); text = sym (ap (λ (u : List ℕ). take at room ++ u) q ∙ append-nil (take at room)); rest = refl }
 
--- the same text by another name
-pub holds_same : (at at₁ : ℕ) (room room₁ t u : List ℕ) → t ≡ u → Holds at room t at₁ room₁ → Holds at room u at₁ room₁
-holds_same at at₁ room room₁ t u q h = subst (λ (x : List ℕ). Holds at room x at₁ room₁) q h
-
 -- one part, and then the others
 pub holds_more : (at mid at₁ : ℕ) (room half room₁ t u all : List ℕ) → all ≡ t ++ u → Holds at room t mid half → Holds mid half u at₁ room₁ → Holds at room all at₁ room₁
 holds_more at mid at₁ room half room₁ t u all q h k =

@@ -1,11 +1,11 @@
 -- Saying whole: within as many steps as there are bytes, good code comes to all that it says. Assumes nothing.
-use Rattle.std.proofs.Common.{◌≡◌, ℕ, ◌≤◌, true, false, List, [], length, is_some, Some, None, Ok, Err, Option, Result, sym, refl, ◌∙◌, subst, arith}
+use Rattle.std.proofs.Common.{◌≡◌, ℕ, ◌≤◌, true, false, List, [], length, is_some, Some, None, Ok, Err, Option, Result, refl, subst, arith}
 use Rattle.code.specs.Step.{kinds, Env, decode}
 use Rattle.code.specs.Code.{State, going, good, run, says, way}
 use Rattle.code.specs.Promise.{Six}
 use Rattle.code.specs.declared.refusal.Refusal.{Refusal}
 use Rattle.code.proofs.Whole.{decode_reads}
-use Rattle.code.proofs.Theorems.{not_too_long, only_classes}
+use Rattle.code.proofs.Theorems.{not_too_long}
 use Rattle.code.proofs.Ways.{said_on_way}
 use Rattle.code.proofs.Prefixed.{comes_to}
 use Rattle.plural.specs.Rules.{wrong_rule}
@@ -24,7 +24,6 @@ spoken_by ks c e kinded six g =
       ends = λ b l. comes_to decode ks e kinded six b c g l;
       way = cc;
       bound = λ m l short. omega (arith, not_too_long decode decode_reads (length c) c [] e m (says decode e c) l short h);
-      alike = λ f a. sym (only_classes decode (length c) (going c []) e f a) ∙ h;
     }
 
 pub said_whole :

@@ -3,5 +3,3 @@ pub mod Told
 pub mod View
 pub mod Room
 pub mod Saying
-pub mod Promise
-pub mod Example

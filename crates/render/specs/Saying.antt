@@ -1,8 +1,7 @@
 -- What saying answers and leaves in the room, for all that is lent. Assumes nothing: these are definitions.
-use Rattle.std.specs.Prelude.{◌≡◌, ℕ, ◌+◌, ◌*◌, ◌<◌, ◌≤◌, Bool, true, false, List, [], ◌∷◌, ◌++◌, length, drop, Some, None, Ok, Err, Option, Result, slice_index}
+use Rattle.std.specs.Prelude.{◌≡◌, ℕ, ◌+◌, ◌*◌, ◌<◌, ◌≤◌, Bool, true, false, List, [], ◌++◌, length, drop, Some, None, Ok, Err, Option, Result}
 use Rattle.code.specs.Step.{kinds, Env, shown, decode}
 use Rattle.code.specs.Code.{State, going, done, stuck, run, met, way, outputs}
-use Rattle.code.specs.Promise.{Alike}
 use Rattle.code.specs.Refused.{number_of}
 use Rattle.code.specs.declared.refusal.Refusal.{Refusal}
 use Rattle.code.specs.declared.said.Said as said
@@ -10,11 +9,6 @@ use Rattle.plural.specs.Rules.{rules_fault}
 use Rattle.verifier.specs.Verdict.{or_else, fault_of}
 use Rattle.render.specs.Told.{values_in, told_fault, ToldWell, ThingRefused}
 use Rattle.render.specs.declared.answer.Answer as answer
-
--- by how much behind a step's end its exit of this number leads; none if it has no exits
-abbrev pub leads : List ℕ → ℕ → Option ℕ
-leads [] k = None
-leads (d ∷ ds) k = Some (slice_index (d ∷ ds) k)
 
 -- what is measured of a run: that it is done, and how much longer it makes what was said before; good code is never stuck
 abbrev pub Measured : State → (before after : ℕ) → Bool → Type 0
@@ -42,8 +36,6 @@ pub record SpokenBy (c : List ℕ) (e : Env) (t : List ℕ) : Type 0 where
   pub way : t ≡ outputs e (met decode (length c) (way decode e) c)
   -- it is at most as long as the code has bytes times the longest argument, or 1
   pub bound : (m : ℕ) → 1 ≤ m → ((i : ℕ) → i < length e.arguments → length (shown e i) ≤ m) → length t ≤ length c * m
-  -- it is what is said in every locale that puts the numbers told in the same classes and writes them in the same way
-  pub alike : (f : Env) → Alike e f → run decode (length c) f (going c []) ≡ done t
 
 -- a refusal changes nothing; else within the budget
 abbrev pub SaidWithin : Option Refusal → State → (room room₁ : List ℕ) → Result answer.Answer Refusal → Type 0

@@ -1,13 +1,25 @@
 // The first pass: how long what is said will be, within a budget of steps.
 ghost use Rattle.std.specs.Prelude.{◌≡◌, ◌+◌, ◌*◌, ◌≤◌, true, [], length};
-ghost use Rattle.code.specs.Step.{kinds, decode};
+ghost use Rattle.code.specs.Step.{kinds, shown_by, decode};
 ghost use Rattle.code.specs.Code.{going, good, run};
-ghost use Rattle.render.specs.View.{values_of, env_of};
+ghost use Rattle.plural.specs.Figures.{figures};
+ghost use Rattle.render.specs.View.{holds, values_of, env_of};
 ghost use Rattle.render.specs.Saying.{Measured};
 
+use crate::arg::Arg;
 use crate::env::Env;
-use crate::steps::{exit_taken, output_len};
-use code::Code;
+use code::{Code, Step};
+use plural::figures_len;
+
+// How long an argument is as it is said.
+fn arg_len(arg: Arg) -> u64
+    ensures { result ≡ length (shown_by figures (holds arg.entry)) }
+{
+    match arg {
+        Arg::Number(n) => figures_len(n) as u64,
+        Arg::Text(text) => text.len() as u64,
+    }
+}
 
 // Adds up what is said by what is left of good code; false if the budget ends before it does.
 pub(crate) fn measure(left: &mut Code, env: &Env, budget: usize, total: &mut u64) -> bool
@@ -19,14 +31,23 @@ pub(crate) fn measure(left: &mut Code, env: &Env, budget: usize, total: &mut u64
         return false;
     }
     let here = *left;
-    let step = here.step();
-    *total += output_len(step, env);
-    let Some(distance) = exit_taken(step, env) else {
-        return true;
-    };
-    let size = step.size();
-    *left = Code {
-        bytes: &here.bytes[size + distance..],
-    };
-    measure(left, env, budget - 1, total)
+    match here.step() {
+        Step::End => true,
+        Step::Letters(letters) => {
+            *total += letters.len() as u64;
+            *left = Code {
+                bytes: &here.bytes[2 + letters.len()..],
+            };
+            measure(left, env, budget - 1, total)
+        }
+        Step::Argument(i) => {
+            *total += arg_len(env.args.get(i as usize));
+            *left = Code {
+                bytes: &here.bytes[2..],
+            };
+            measure(left, env, budget - 1, total)
+        }
+        Step::Unknown(_) => unreachable(),
+        Step::Cut => unreachable(),
+    }
 }

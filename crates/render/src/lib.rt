@@ -5,9 +5,7 @@ mod args;
 mod entry;
 mod env;
 mod length;
-mod promises;
 mod put;
-mod steps;
 mod told;
 mod within;
 mod write;
@@ -15,5 +13,4 @@ mod writer;
 
 pub use answer::Answer;
 pub use entry::{render, say, try_say};
-pub use promises::{boats_example, same_classes};
 pub use within::render_within;

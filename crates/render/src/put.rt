@@ -1,15 +1,13 @@
 // The second pass: what is said is put into a room that is known to hold it.
 ghost use Rattle.std.specs.Prelude.{◌≡◌, ◌+◌, ◌≤◌, true, ◌++◌, length, drop};
-ghost use Rattle.code.specs.Step.{kinds, shown_by, needs, output, decode};
+ghost use Rattle.code.specs.Step.{kinds, shown_by, decode};
 ghost use Rattle.code.specs.Code.{good, says};
-ghost use Rattle.code.specs.View.{seen};
 ghost use Rattle.plural.specs.Figures.{figures};
 ghost use Rattle.render.specs.Room.{Holds};
 ghost use Rattle.render.specs.View.{holds, values_of, env_of};
 
 use crate::arg::Arg;
 use crate::env::Env;
-use crate::steps::exit_taken;
 use crate::writer::Writer;
 use code::{Code, Step};
 use plural::{FIGURES, write_figures};
@@ -31,28 +29,8 @@ fn put_arg(arg: Arg, out: &mut Writer)
     }
 }
 
-// What a step says.
-fn put_step(step: Step, env: &Env, out: &mut Writer)
-    requires needs { needs (seen step) (kinds (values_of env.now.args)) ≡ true }
-    requires fits { out.old.at + length (output (seen step) (env_of env.now)) ≤ length out.old.room.now }
-    ensures same { out.new.room.ghost_name ≡ out.old.room.ghost_name }
-    ensures long { length out.new.room.now ≡ length out.old.room.now }
-    ensures holds { Holds out.old.at out.old.room.now (output (seen step.entry) (env_of env.now)) out.new.at out.new.room.now }
-{
-    match step {
-        Step::End => {}
-        Step::Letters(letters) => out.push(letters),
-        Step::Argument(i) => put_arg(env.args.get(i as usize), out),
-        Step::Select { .. } => {}
-        Step::Skip(_) => {}
-        Step::Unknown(_) => {}
-        Step::Cut => {}
-    }
-}
-
 // What is left of good code is said.
 fn put(left: &mut Code, env: &Env, out: &mut Writer)
-    requires short { length left.old.bytes.now ≤ 4096 }
     requires good { good decode (kinds (values_of env.now.args)) left.old.bytes.now ≡ true }
     requires fits { out.old.at + length (says decode (env_of env.now) left.old.bytes.now) ≤ length out.old.room.now }
     ensures same { out.new.room.ghost_name ≡ out.old.room.ghost_name }
@@ -60,21 +38,29 @@ fn put(left: &mut Code, env: &Env, out: &mut Writer)
     ensures holds { Holds out.old.at out.old.room.now (says decode (env_of env.now) left.old.bytes.now) out.new.at out.new.room.now }
 {
     let here = *left;
-    let step = here.step();
-    put_step(step, env, out);
-    let Some(distance) = exit_taken(step, env) else {
-        return;
-    };
-    let size = step.size();
-    *left = Code {
-        bytes: &here.bytes[size + distance..],
-    };
-    put(left, env, out)
+    match here.step() {
+        Step::End => {}
+        Step::Letters(letters) => {
+            out.push(letters);
+            *left = Code {
+                bytes: &here.bytes[2 + letters.len()..],
+            };
+            put(left, env, out)
+        }
+        Step::Argument(i) => {
+            put_arg(env.args.get(i as usize), out);
+            *left = Code {
+                bytes: &here.bytes[2..],
+            };
+            put(left, env, out)
+        }
+        Step::Unknown(_) => unreachable(),
+        Step::Cut => unreachable(),
+    }
 }
 
 // What good code says is put at the front of a room that holds it.
 pub(crate) fn put_all(code: Code, env: &Env, room: &mut [u8])
-    requires short { length code.bytes.now ≤ 4096 }
     requires good { good decode (kinds (values_of env.now.args)) code.bytes.now ≡ true }
     requires fits { length (says decode (env_of env.now) code.bytes.now) ≤ length room.old }
     ensures { room.new ≡ says decode (env_of env.now) code.entry.bytes.now ++ drop (length (says decode (env_of env.now) code.entry.bytes.now)) room.old }

@@ -1,4 +1,4 @@
-// What a file lacks, in words.
+// What a message file lacks, in words.
 use msgfile::Expected;
 use std::fmt;
 
@@ -8,8 +8,7 @@ pub struct ExpectedWords(pub Expected);
 impl fmt::Display for ExpectedWords {
     fn fmt<W: fmt::Write>(&self, f: &mut fmt::Formatter<W>) -> fmt::Result {
         match self.0 {
-            Expected::Number(u64::MAX) => f.write_str("expected a number below 2^64"),
-            Expected::Number(most) => write!(f, "expected a number from 0 to {most}"),
+            Expected::Number => f.write_str("expected a number from 0 to 255"),
             Expected::Name => f.write_str("expected the name of a thing told"),
             Expected::Kind => f.write_str("expected `text` or `number` behind the name"),
             Expected::Comma => f.write_str("expected a comma or the end of the line"),

@@ -5,4 +5,4 @@ mod refusals;
 
 pub use faults::ExpectedWords;
 pub use flaws::FlawWords;
-pub use refusals::{RefusalWords, Refused};
+pub use refusals::RefusalWords;

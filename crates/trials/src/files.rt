@@ -31,7 +31,7 @@ fn fault(rt: &HostRuntime, text: &[u8]) -> (u8, usize, usize) {
         Err(ReadError::Wrong(expected, left)) => {
             let position = position_of(text, left);
             let which = match expected {
-                Expected::Number(_) => 1,
+                Expected::Number => 1,
                 Expected::Name => 2,
                 Expected::Kind => 3,
                 Expected::Comma => 4,

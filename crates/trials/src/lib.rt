@@ -1,7 +1,5 @@
 // Trials: what the library answers on examples, run beside the proofs.
 #[cfg(test)]
-mod choices;
-#[cfg(test)]
 mod files;
 #[cfg(test)]
 mod helpers;

@@ -36,7 +36,7 @@ fn none(rt: HostRuntime) {
     assert!(rt; said(&mut [0; 0]) == (false, 16));
 }
 
-// Without rules the message takes six steps: with fewer it is unfinished, and the room is untouched.
+// The message has five steps: with fewer it is unfinished, and the room is untouched.
 #[test]
 fn budgets(rt: HostRuntime) -> Result<(), Fail> {
     let kinds = [0, 1];
@@ -52,7 +52,7 @@ fn budgets(rt: HostRuntime) -> Result<(), Fail> {
             Ok(Answer::Spoken(len)) => len == 16,
             _ => false,
         };
-        assert!(rt; spoken == (budget >= 6));
+        assert!(rt; spoken == (budget >= 5));
         assert!(rt; spoken || holds(&room, b""));
     }
     Ok(())

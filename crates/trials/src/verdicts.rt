@@ -74,52 +74,8 @@ fn flaws(rt: HostRuntime) {
     assert!(rt; matches!(explain(&[1, 2, 97], &[], 0), Some(Flaw::Cut)));
     assert!(rt; matches!(explain(&[1], &[], 0), Some(Flaw::Cut)));
     assert!(rt; matches!(explain(&[2, 3, 0], &[0], 0), Some(Flaw::Untold(3))));
-    assert!(rt;
-        matches!(
-            explain(&[2, 0], &[0], 0),
-            Some(Flaw::PastEnd { exit: 0, by: 2 })
-        )
-    );
+    assert!(rt; matches!(explain(&[2, 0], &[0], 0), Some(Flaw::PastEnd)));
     assert!(rt; matches!(explain(&[1, 0, 0], &[], 0), None));
-}
-
-// The worked example for two texts, without its last byte, and with a class that would go on in the middle of a step.
-#[test]
-fn choosing(rt: HostRuntime) {
-    assert!(rt; place(&BOATS, &[0, 1]) == 9999);
-    assert!(rt; place(&BOATS, &[0, 0]) == 11);
-    assert!(rt; place(&BOATS[0..36], &[0, 1]) == 26);
-    let mut astray = BOATS;
-    astray[14] = 8;
-    assert!(rt; place(&astray, &[0, 1]) == 11);
-    assert!(rt;
-        matches!(
-            explain(&astray, &[0, 1], 11),
-            Some(Flaw::Astray { exit: 1, by: 16 })
-        )
-    );
-    assert!(rt; matches!(explain(&BOATS, &[0, 0], 11), Some(Flaw::Unnumbered(1))));
-    assert!(rt;
-        matches!(
-            explain(&BOATS[0..36], &[0, 1], 26),
-            Some(Flaw::PastEnd { exit: 0, by: 10 })
-        )
-    );
-}
-
-// A distance counts from the step's end: from its beginning, each of these would lead to a step.
-#[test]
-fn distances(rt: HostRuntime) {
-    assert!(rt; place(&[4, 2, 0], &[]) == 0);
-    assert!(rt; place(&[4, 0, 0], &[]) == 9999);
-    assert!(rt; place(&[3, 0, 8, 8, 8, 8, 8, 8, 0], &[1]) == 0);
-    assert!(rt; place(&[3, 0, 0, 0, 0, 0, 0, 1, 0], &[1]) == 0);
-    assert!(rt; place(&[3, 0, 0, 0, 0, 0, 0, 0, 0], &[1]) == 9999);
-    assert!(rt; place(&[3, 0, 0, 0, 0, 0, 0, 0], &[1]) == 0);
-    assert!(rt; place(&[3, 0, 0, 0, 0, 0, 0], &[1]) == 0);
-    assert!(rt; place(&[0, 4, 1, 0], &[]) == 1);
-    assert!(rt; place(&[0, 4, 1, 1, 0, 0], &[]) == 1);
-    assert!(rt; place(&[4, 2, 9, 0, 0], &[]) == 2);
 }
 
 #[test]

@@ -1,5 +1,4 @@
--- Lemmas by topic: Marking on marks and where steps begin, Flaws on what is wrong with a step, Scans on the pass over the code, Words on the answers in the subject's words.
-pub mod Marking
+-- Lemmas by topic: Flaws on what is wrong with a step, Scans on the pass over the code, Words on the answers in the subject's words.
 pub mod Flaws
 pub mod Scans
 pub mod Words

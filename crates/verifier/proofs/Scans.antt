@@ -2,9 +2,9 @@
 use Rattle.std.proofs.Common.{◌≡◌, ℕ, zero, suc, pred, ◌+◌, ◌-◌, ◌<◌, ◌≤◌, Bool, true, false, cond, ltb, List, [], ◌∷◌, length, take, drop, is_some, sym, refl, ap, ◌∙◌, inl, inr, arith}
 use Rattle.std.proofs.lemmas.Bool.{cases_Bool, and_parts, not-false, not-true}
 use Rattle.std.proofs.lemmas.List.{take_rest}
-use Rattle.code.specs.Step.{size, whole, decode}
+use Rattle.code.specs.Step.{size, decode}
 use Rattle.code.specs.Code.{step_good, good_on, good, bad_at}
-use Rattle.code.proofs.Laws.{size_pos, needs_whole}
+use Rattle.code.proofs.Laws.{size_pos}
 use Rattle.code.proofs.Whole.{decode_reads}
 use Rattle.code.proofs.Goods.{begins_within, first_bad, good_asks}
 use Rattle.verifier.specs.Verdict.{flaw_of}
@@ -50,9 +50,6 @@ module _ (ks : List ℕ) where
 
   pub size_within : (r : List ℕ) (n : ℕ) → is_some (flaw_of ks r) ≡ false → n ≡ size (decode r) → (1 ≤ n) × (n ≤ length r)
   size_within r n h q = (omega (arith, size_pos (decode r)), omega (arith, step_within r (no_flaw r h)))
-
-  pub whole_here : (r : List ℕ) → is_some (flaw_of ks r) ≡ false → whole (decode r) ≡ true
-  whole_here r h = needs_whole (decode r) ks (good_asks decode ks r (no_flaw r h))
 
   -- where none is, it goes on behind the step
   pub bad_on : (r : List ℕ) (n : ℕ) → is_some (flaw_of ks r) ≡ false → n ≡ size (decode r) → bad_at decode zero ks r ≡ n + bad_at decode zero ks (take (length r - n) (drop n r))

@@ -1,4 +1,3 @@
 -- What the contracts of `verifier` cite.
-pub mod Marks
 pub mod Verdict
 pub mod View

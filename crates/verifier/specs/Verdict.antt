@@ -1,40 +1,24 @@
 -- What the verifier answers, for all code and kinds that are lent. Assumes nothing: these are definitions.
-use Rattle.std.specs.Prelude.{◌≡◌, ℕ, zero, suc, ◌+◌, ◌<◌, ◌≤◌, cond, List, [], ◌∷◌, length, Some, None, Option, ◌==◌, nat_le, nat_lt, slice_index}
-use Rattle.code.specs.Step.{Step, ends, letters, argument, select, skip, unknown, cut, size, exits, decode}
-use Rattle.code.specs.Code.{begins, good, bad_at}
+use Rattle.std.specs.Prelude.{◌≡◌, ℕ, zero, suc, ◌+◌, ◌<◌, ◌≤◌, cond, List, [], ◌∷◌, length, Some, None, Option, nat_le, nat_lt, slice_index}
+use Rattle.code.specs.Step.{Step, ends, letters, argument, unknown, cut, decode}
+use Rattle.code.specs.Code.{good, bad_at}
 use Rattle.code.specs.Promise.{Begins, GoodStep, GoodCode}
 use Rattle.code.specs.Refused.{number_of}
 use Rattle.code.specs.declared.refusal.Refusal as refusal
 use Rattle.code.specs.declared.said.Said as said
 use Rattle.verifier.specs.declared.flaw.Flaw as flaw
 
--- what is wrong with what a step asks, of what is left of the code
-abbrev pub asks_flaw : (ks r : List ℕ) → Step → Option flaw.Flaw
-asks_flaw ks r ends = None
-asks_flaw ks r (letters t) = None
-asks_flaw ks r (argument i) = cond (nat_lt i (length ks)) None (Some (flaw.TheVariants.Untold i))
-asks_flaw ks r (select i ds) = cond (nat_lt i (length ks)) (cond (slice_index ks i == 1) None (Some (flaw.TheVariants.Unnumbered i))) (Some (flaw.TheVariants.Untold i))
-asks_flaw ks r (skip d) = None
-asks_flaw ks r (unknown x) = Some (flaw.TheVariants.Unknown x)
-asks_flaw ks r cut = cond (nat_lt 0 (length r)) (Some flaw.TheVariants.Cut) (Some flaw.TheVariants.Empty)
+-- what is wrong with a step, of what is left of the code
+abbrev pub flaw_by : (ks r : List ℕ) → Step → Option flaw.Flaw
+flaw_by ks r ends = None
+flaw_by ks r (letters t) = cond (nat_lt (2 + length t) (length r)) None (Some flaw.TheVariants.PastEnd)
+flaw_by ks r (argument i) = cond (nat_lt i (length ks)) (cond (nat_lt 2 (length r)) None (Some flaw.TheVariants.PastEnd)) (Some (flaw.TheVariants.Untold i))
+flaw_by ks r (unknown x) = Some (flaw.TheVariants.Unknown x)
+flaw_by ks r cut = cond (nat_lt 0 (length r)) (Some flaw.TheVariants.Cut) (Some flaw.TheVariants.Empty)
 
--- the first of two flaws
-abbrev pub first_flaw : Option flaw.Flaw → Option flaw.Flaw → Option flaw.Flaw
-first_flaw None g = g
-first_flaw (Some f) g = Some f
-
--- what is wrong with an exit of this number that leads so many bytes behind the step's beginning: no step begins there
-abbrev pub exit_flaw : (r : List ℕ) → (k by : ℕ) → Option flaw.Flaw
-exit_flaw r k by = cond (nat_lt by (length r)) (cond (begins decode zero r by) None (Some (flaw.TheVariants.Astray k by))) (Some (flaw.TheVariants.PastEnd k by))
-
--- the first exit that is wrong, from this number on, of a step of this size
-unfoldable pub exits_flaw : (r : List ℕ) → (size k : ℕ) → List ℕ → Option flaw.Flaw
-exits_flaw r n k [] = None
-exits_flaw r n k (d ∷ ds) = first_flaw (exit_flaw r k (n + d)) (exits_flaw r n (suc k) ds)
-
--- what is wrong with the step that begins here: what it asks, and then its exits
+-- the same of the step that begins here
 abbrev pub flaw_of : (ks r : List ℕ) → Option flaw.Flaw
-flaw_of ks r = first_flaw (asks_flaw ks r (decode r)) (exits_flaw r (size (decode r)) 0 (exits (decode r)))
+flaw_of ks r = flaw_by ks r (decode r)
 
 -- how many kinds stand before the first that is neither a text's nor a number's; all of them if there is none
 unfoldable pub odd_kind : List ℕ → ℕ

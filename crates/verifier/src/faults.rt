@@ -1,5 +1,5 @@
 // Good code, or the first refusal that applies.
-ghost use Rattle.std.specs.Prelude.{◌≡◌, not, take, drop, is_some, Some, None, MatchResult};
+ghost use Rattle.std.specs.Prelude.{◌≡◌, not, drop, is_some, Some, None, MatchResult};
 ghost use Rattle.code.specs.Step.{decode};
 ghost use Rattle.code.specs.Code.{step_good};
 ghost use Rattle.code.specs.Promise.{GoodCode};
@@ -7,7 +7,6 @@ ghost use Rattle.verifier.specs.Verdict.{flaw_of, fault_of, Lent, Refuses};
 
 use crate::flaw::Flaw;
 use crate::limits::limits;
-use crate::mark::beginnings;
 use crate::scan::{Kinds, flaw, scan};
 use code::{Code, Refusal};
 
@@ -20,8 +19,7 @@ pub fn verify(code: &[u8], kinds: &[u8]) -> Result<(), Refusal>
         return Err(refusal);
     }
     let mut left = Code { bytes: code };
-    let marks = beginnings(left);
-    scan(&mut left, &Kinds { bytes: kinds }, &marks);
+    scan(&mut left, &Kinds { bytes: kinds });
     let at = code.len() - left.bytes.len();
     if code.is_empty() || at < code.len() {
         return Err(Refusal::Step(at));
@@ -29,22 +27,11 @@ pub fn verify(code: &[u8], kinds: &[u8]) -> Result<(), Refusal>
     Ok(())
 }
 
-// What is wrong with the step at this place; a place behind the end has no byte. No more is looked at than the longest code has.
+// What is wrong with the step at this place; a place behind the end has no byte.
 pub fn explain(code: &[u8], kinds: &[u8], at: usize) -> Option<Flaw>
-    ensures value { result ≡ flaw_of kinds.now (take 4096 (drop at code.now)) }
-    ensures exactly { is_some result ≡ not (step_good decode kinds.now (take 4096 (drop at code.now))) }
+    ensures value { result ≡ flaw_of kinds.now (drop at code.now) }
+    ensures exactly { is_some result ≡ not (step_good decode kinds.now (drop at code.now)) }
 {
-    let start = at.min(code.len());
-    let rest = &code[start..];
-    let left = Code {
-        bytes: &rest[0..rest.len().min(Code::MAX_BYTES)],
-    };
-    let step = left.step();
-    flaw(
-        &left,
-        &Kinds { bytes: kinds },
-        &beginnings(left),
-        step,
-        step.size(),
-    )
+    let at = at.min(code.len());
+    flaw(Code { bytes: &code[at..] }, &Kinds { bytes: kinds })
 }

@@ -1,11 +1,8 @@
 // The verifier: code is good or it isn't, and then the first step that isn't good is named, and why.
 mod entry;
-mod exits;
 mod faults;
 mod flaw;
 mod limits;
-mod mark;
-mod marks;
 mod message;
 mod parts;
 mod scan;

@@ -1,4 +1,4 @@
-use Rattle.std.proofs.Common.{vec_items}
+use Rattle.std.proofs.Common.{vec_items, refl}
 use Rattle.std.proofs.lemmas.Result.{err_from_is_err_and}
 use Rattle.msgfile.proofs.Files.{rest_told, rest_code, rest_both}
 use Rattle.msgfile.proofs.file.read_rest.Goals as goal
@@ -8,14 +8,15 @@ returns-in-Err c =
     rw c.further.ensures
     (rest_told (Unit {0}) (vec_items c.new-kinds.result) (vec_items c.read-told.new.kinds) c.args.text.now c.span_end.result c.in-Err.error c.span_end.ensures.value c.span_end.ensures.within c.in-Err.ensures.told)
 
-pub returns-in-err-code : goal.returns-in-err-code
-returns-in-err-code c =
+pub returns-in-err-read-numbers : goal.returns-in-err-read-numbers
+returns-in-err-read-numbers c =
     let p = err_from_is_err_and c.from-residual.result c.from-residual.ensures.1 in
     rw (p.1, p.2)
-    (rest_code (vec_items c.new-kinds.result) (vec_items c.read-told.new.kinds) c.args.text.now c.span_end.result c.in-default.field-0 c.in-err-code.field-0.0
-    c.span_end.ensures.value c.new-kinds.ensures.items c.in-default.ensures.told c.in-err-code.ensures)
+    (rest_code (Unit {0}) (vec_items c.new-kinds.result) (vec_items c.read-told.new.kinds) (vec_items c.new-code.result) (vec_items c.read-numbers.new.code) c.args.text.now c.span_end.result c.in-default.field-0 c.in-err-read-numbers.field-0.0
+    c.span_end.ensures.value c.new-kinds.ensures.items c.in-default.ensures.told c.in-err-read-numbers.ensures.numbers)
 
 pub returns : goal.returns
 returns c =
-    rest_both (vec_items c.new-kinds.result) (vec_items c.read-told.new.kinds) (vec_items c.in-ok-code.code) c.args.text.now c.span_end.result c.in-default.field-0
-    c.span_end.ensures.value c.new-kinds.ensures.items c.in-default.ensures.told c.in-ok-code.ensures
+    rest_both (vec_items c.new-kinds.result) (vec_items c.read-told.new.kinds) (vec_items c.new-code.result) (vec_items c.read-numbers.new.code) c.args.text.now c.span_end.result c.in-default.field-0 c.in-ok-read-numbers.field-0
+    (record { kinds = c.read-told.new.kinds; code = c.read-numbers.new.code })
+    c.span_end.ensures.value c.new-kinds.ensures.items c.new-code.ensures.items c.in-default.ensures.told c.in-ok-read-numbers.ensures.numbers refl refl

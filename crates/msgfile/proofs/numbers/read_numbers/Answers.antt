@@ -1,24 +1,44 @@
-use Rattle.std.proofs.Common.{ℕ, List, vec_items, sym, ap, ◌∙◌, arith}
+use Rattle.std.proofs.Common.{ℕ, ◌+◌, ◌-◌, List, ◌++◌, length, get_or, drop, Err, vec_items, ap, ◌∙◌, append_assoc, arith}
 use Rattle.std.proofs.lemmas.Result.{err_from_is_err_and}
-use Rattle.msgfile.specs.Numbers.{with, numbers_in}
-use Rattle.msgfile.proofs.Reading.{with_none, read_more, read_end, read_stop}
+use Rattle.msgfile.specs.Numbers.{feed, ended, with, numbers_from, numbers_in}
+use Rattle.msgfile.specs.declared.numbers.Place.TheVariants.{Between}
+use Rattle.msgfile.specs.Read.{Reads, as_numbers}
+use Rattle.msgfile.proofs.Things.{fault_short}
+use Rattle.msgfile.proofs.Reading.{with_with, from_more, from_stop, from_end, stop_reads, end_reads, numbers_short}
 use Rattle.msgfile.proofs.numbers.read_numbers.Goals as goal
 
-pub loop-at-init : goal.loop-at-init
-loop-at-init c = sym (ap (λ (a : List ℕ). with a (numbers_in c.args.most c.args.text.now)) c.new-numbers.ensures.items ∙ with_none (numbers_in c.args.most c.args.text.now))
-
-pub returns-in-err-reading : goal.returns-in-err-reading
-returns-in-err-reading c =
+pub returns-in-err-place : goal.returns-in-err-place
+returns-in-err-place c =
     let p = err_from_is_err_and c.from-residual.result c.from-residual.ensures.1 in
+    let reads : Reads {A = Unit {0}} (vec_items c.args.code.now) (vec_items c.turn.new.code) (Err c.in-err-place.field-0.0) (as_numbers (numbers_in c.args.text.now)) =
+    stop_reads (Unit {0}) (vec_items c.args.code.now) (vec_items c.turn.new.code) c.in-err-place.field-0.0 (length c.args.text.now - c.loop-at.at) (feed c.loop-at.place (get_or c.args.text.now c.loop-at.at 0)) (numbers_in c.args.text.now)
+    c.in-err-place.ensures
+    (λ h. c.loop-at.invariant.2 ∙ ap (with c.loop-at.invariant.0) (from_stop c.loop-at.place c.args.text.now c.loop-at.at (omega arith) h)) in
     rw (p.1, p.2)
-    (read_stop c.args.most (numbers_in c.args.most c.args.text.now) (vec_items c.loop-at.numbers) c.in-err-reading.field-0.0 c.loop-at.reading c.args.text.now c.loop-at.at c.loop-at.invariant (omega arith) c.in-err-reading.ensures)
+    (record {
+      numbers = reads;
+      within = fault_short {A = Unit {0}} (vec_items c.args.code.now) (vec_items c.turn.new.code) (Err c.in-err-place.field-0.0) (as_numbers (numbers_in c.args.text.now)) (length c.args.text.now) reads (numbers_short Between c.args.text.now (length c.args.text.now) (omega arith));
+    })
 
 pub loop-at-preserved : goal.loop-at-preserved
 loop-at-preserved c =
-    read_more c.args.most (numbers_in c.args.most c.args.text.now) (vec_items c.loop-at.numbers) (vec_items c.turn.new.numbers) c.loop-at.reading c.in-ok-reading.reading c.args.text.now c.loop-at.at c.loop-at.invariant (omega arith)
-    c.in-ok-reading.ensures.0 c.in-ok-reading.ensures.1
+    let i : ℕ = c.loop-at.at in
+    let text : List ℕ = c.args.text.now in
+    let h = c.in-ok-place.ensures in
+    let v = c.loop-at.invariant in (
+      v.0 ++ ended c.loop-at.place c.in-ok-place.place,
+      h.1 ∙ ap (λ (y : List ℕ). y ++ ended c.loop-at.place c.in-ok-place.place) v.1 ∙ append_assoc (vec_items c.args.code.now) v.0 (ended c.loop-at.place c.in-ok-place.place),
+      v.2 ∙ ap (with v.0) (from_more c.loop-at.place c.in-ok-place.place text i (omega arith) h.0)
+          ∙ with_with v.0 (ended c.loop-at.place c.in-ok-place.place) (numbers_from c.in-ok-place.place (drop (i + 1) text)),
+    )
 
 pub returns : goal.returns
 returns c =
-    read_end c.args.most (numbers_in c.args.most c.args.text.now) (vec_items c.loop-at.numbers) (vec_items c.add-ended.new.numbers) c.loop-at.reading c.args.text.now c.loop-at.at c.loop-at.invariant (omega arith)
-    c.in-ok-add-ended.ensures
+    let v = c.loop-at.invariant in
+    let reads =
+    end_reads (vec_items c.args.code.now) (vec_items c.add-ended.new.code) (vec_items c.loop-at.code) c.add-ended.result (numbers_in c.args.text.now) (ended c.loop-at.place Between) c.add-ended.ensures v.0 v.1
+    (v.2 ∙ ap (with v.0) (from_end c.loop-at.place c.args.text.now c.loop-at.at (omega arith))) in
+    record {
+      numbers = reads;
+      within = fault_short (vec_items c.args.code.now) (vec_items c.add-ended.new.code) c.add-ended.result (as_numbers (numbers_in c.args.text.now)) (length c.args.text.now) reads (numbers_short Between c.args.text.now (length c.args.text.now) (omega arith));
+    }

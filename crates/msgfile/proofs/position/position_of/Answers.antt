@@ -1,5 +1,5 @@
 use Rattle.std.proofs.Common.{◌≡◌, ℕ, ◌+◌, ◌-◌, ◌≤◌, List, get_or, take, drop, sym, ap, ◌∙◌, subst, arith}
-use Rattle.msgfile.specs.declared.position.Position.{Position}
+use Rattle.msgfile.specs.declared.place.Position.{Position}
 use Rattle.msgfile.specs.Text.{position_from, start}
 use Rattle.msgfile.proofs.Fronts.{position_more, position_end, moved_few}
 use Rattle.msgfile.proofs.position.position_of.Goals as goal

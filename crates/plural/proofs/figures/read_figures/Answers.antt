@@ -15,14 +15,14 @@ pub returns-in-err-n : goal.returns-in-err-n
 returns-in-err-n c =
     let i : ℕ = c.loop-figure.figure-index in
     let figs : List ℕ = c.args.figures.now in
-    let t = subst (Then c.loop-figure.n (get_or figs i 0) (drop (i + 1) figs)) (sym c.figure_on.ensures ∙ c.in-err-n.was) (on_then c.loop-figure.n (get_or figs i 0) (drop (i + 1) figs)) in
+    let t = subst (Then c.loop-figure.n (get_or figs i 0) (drop (i + 1) figs)) (sym c.figure-on.ensures ∙ c.in-err-n.was) (on_then c.loop-figure.n (get_or figs i 0) (drop (i + 1) figs)) in
     c.from-residual.ensures ∙ sym (sym c.loop-figure.invariant ∙ ap (figures_on c.loop-figure.n) (drop_more figs i 0 (omega arith)) ∙ t)
 
 pub loop-figure-preserved : goal.loop-figure-preserved
 loop-figure-preserved c =
     let i : ℕ = c.loop-figure.figure-index in
     let figs : List ℕ = c.args.figures.now in
-    let t = subst (Then c.loop-figure.n (get_or figs i 0) (drop (i + 1) figs)) (sym c.figure_on.ensures ∙ c.in-ok-n.was) (on_then c.loop-figure.n (get_or figs i 0) (drop (i + 1) figs)) in
+    let t = subst (Then c.loop-figure.n (get_or figs i 0) (drop (i + 1) figs)) (sym c.figure-on.ensures ∙ c.in-ok-n.was) (on_then c.loop-figure.n (get_or figs i 0) (drop (i + 1) figs)) in
     sym t ∙ sym (ap (figures_on c.loop-figure.n) (drop_more figs i 0 (omega arith))) ∙ c.loop-figure.invariant
 
 pub returns : goal.returns

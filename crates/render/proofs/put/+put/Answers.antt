@@ -1,70 +1,71 @@
-use Rattle.std.proofs.Common.{◌≡◌, ℕ, ◌+◌, ◌-◌, length, take, drop, sym, ap, ◌∙◌, arith, length-append, length-drop, length-take, rules}
-use Rattle.code.specs.Step.{output, decode}
+use Rattle.std.proofs.Common.{◌+◌, ◌-◌, ◌++◌, length, take, drop, sym, ap, ◌∙◌, arith, length-append, rules}
+use Rattle.code.specs.Step.{kinds, shown_by, shown, decode}
 use Rattle.code.specs.Code.{says}
-use Rattle.code.specs.View.{seen}
-use Rattle.code.proofs.Laws.{size_pos}
-use Rattle.render.specs.View.{env_of}
-use Rattle.render.proofs.Rooms.{holds_more, holds_same}
-use Rattle.render.proofs.Stepping.{asks_here, On, on_here, output_within, ends_says, on_says}
+use Rattle.plural.specs.Figures.{figures}
+use Rattle.render.specs.View.{values_of, env_of}
+use Rattle.render.proofs.Rooms.{holds_none, holds_more}
+use Rattle.render.proofs.Steps.{no_unknown, no_cut, told_argument, good_letters, good_argument, ends_says, letters_says, argument_says}
 use Rattle.render.proofs.put.+put.Goals as goal
 
-pub put-step-requires : goal.put-step-requires
-put-step-requires t c =
-    record {
-      needs = asks_here c.args.env.now c.args.left.now.bytes.now (seen c.step-step.result) c.step-step.ensures.step c.requires.good;
-      fits = omega (arith, c.requires.fits, output_within c.args.env.now c.args.left.now.bytes.now (seen c.step-step.result) c.step-step.ensures.step c.requires.good);
-    }
-
-pub exit-taken-requires : goal.exit-taken-requires
-exit-taken-requires t c = asks_here c.args.env.now c.args.left.now.bytes.now (seen c.step-step.result) c.step-step.ensures.step c.requires.good
-
-pub returns-in-default : goal.returns-in-default
-returns-in-default t c =
-    record {
-      same = c.put-step.ensures.same;
-      long = c.put-step.ensures.long;
-      holds = holds_same _ _ _ _ _ _ (sym (ends_says c.args.env.now c.args.left.now.bytes.now (seen c.step-step.result) c.step-step.ensures.step c.requires.good c.in-default.ensures)) c.put-step.ensures.holds;
-    }
-
-pub overflow-add-left : goal.overflow-add-left
-overflow-add-left t c =
-    let on = on_here c.args.env.now c.args.left.now.bytes.now (seen c.step-step.result) c.size-size.result c.in-Some.distance c.size-size.ensures c.step-step.ensures.step c.requires.good c.in-Some.ensures in
-    omega (arith, c.requires.short, on.within)
-
-pub slice-bounds-left-count : goal.slice-bounds-left-count
-slice-bounds-left-count t c =
-    let on = on_here c.args.env.now c.args.left.now.bytes.now (seen c.step-step.result) c.size-size.result c.in-Some.distance c.size-size.ensures c.step-step.ensures.step c.requires.good c.in-Some.ensures in
-    omega (arith, on.within)
-
-pub slice-bounds-left-start : goal.slice-bounds-left-start
-slice-bounds-left-start t c =
-    let on = on_here c.args.env.now c.args.left.now.bytes.now (seen c.step-step.result) c.size-size.result c.in-Some.distance c.size-size.ensures c.step-step.ensures.step c.requires.good c.in-Some.ensures in
-    let within = on.within in
-    search rules
+pub push-requires : goal.push-requires
+push-requires t c =
+    let q = letters_says c.args.env.now c.args.left.now.bytes.now c.in-Letters.letters.now c.in-Letters.ensures.step c.requires.good in
+    omega (arith, c.requires.fits, ap length q, length-append c.in-Letters.letters.now (says decode (env_of c.args.env.now) (take (length c.args.left.now.bytes.now - (2 + length c.in-Letters.letters.now)) (drop (2 + length c.in-Letters.letters.now) c.args.left.now.bytes.now))))
 
 pub put-requires : goal.put-requires
 put-requires t c =
-    let on = on_here c.args.env.now c.args.left.now.bytes.now (seen c.step-step.result) c.size-size.result c.in-Some.distance c.size-size.ensures c.step-step.ensures.step c.requires.good c.in-Some.ensures in
-    let within = on.within in
-    let one = size_pos (seen c.step-step.result) in
-    let sized = c.size-size.ensures in
-    let n : ℕ = c.size-size.result + c.in-Some.distance in
-    let q = on_says c.args.env.now c.args.left.now.bytes.now (seen c.step-step.result) c.size-size.result c.in-Some.distance c.step-step.ensures.step c.requires.good on in (
-      omega (arith, c.decreases),
+    let q = letters_says c.args.env.now c.args.left.now.bytes.now c.in-Letters.letters.now c.in-Letters.ensures.step c.requires.good in
+    let w = c.in-Letters.ensures.within in (
+      search rules,
       (
-        omega (arith, c.requires.short, length-take (length c.args.left.now.bytes.now - n) (drop n c.args.left.now.bytes.now), length-drop n c.args.left.now.bytes.now),
-        (
-          on.good,
-          omega (arith, c.requires.fits, ap length q, length-append (output (seen c.step-step.result) (env_of c.args.env.now)) (says decode (env_of c.args.env.now) (take (length c.args.left.now.bytes.now - n) (drop n c.args.left.now.bytes.now))), c.put-step.ensures.long, c.put-step.ensures.holds.place),
-        ),
+        good_letters c.args.env.now c.args.left.now.bytes.now c.in-Letters.letters.now c.in-Letters.ensures.step c.requires.good,
+        omega (arith, c.requires.fits, ap length q, length-append c.in-Letters.letters.now (says decode (env_of c.args.env.now) (take (length c.args.left.now.bytes.now - (2 + length c.in-Letters.letters.now)) (drop (2 + length c.in-Letters.letters.now) c.args.left.now.bytes.now))), c.push.ensures.long, c.push.ensures.holds.place),
       ),
     )
 
-pub returns : goal.returns
-returns t c =
-    let on = on_here c.args.env.now c.args.left.now.bytes.now (seen c.step-step.result) c.size-size.result c.in-Some.distance c.size-size.ensures c.step-step.ensures.step c.requires.good c.in-Some.ensures in
+pub get-requires : goal.get-requires
+get-requires t c = told_argument (values_of c.args.env.now.args) c.args.left.now.bytes.now c.in-Argument.i c.in-Argument.ensures.step c.requires.good
+
+pub put-arg-requires : goal.put-arg-requires
+put-arg-requires t c =
+    let q = argument_says c.args.env.now c.args.left.now.bytes.now c.in-Argument.i c.in-Argument.ensures.step c.requires.good in
+    omega (arith, c.requires.fits, ap length q, length-append (shown (env_of c.args.env.now) c.in-Argument.i) (says decode (env_of c.args.env.now) (take (length c.args.left.now.bytes.now - 2) (drop 2 c.args.left.now.bytes.now))), ap (λ v. length (shown_by figures v)) c.get.ensures)
+
+pub put-requires-in-Argument : goal.put-requires-in-Argument
+put-requires-in-Argument t c =
+    let q = argument_says c.args.env.now c.args.left.now.bytes.now c.in-Argument.i c.in-Argument.ensures.step c.requires.good in
+    let w = c.in-Argument.ensures.within in (
+      search rules,
+      (
+        good_argument c.args.env.now c.args.left.now.bytes.now c.in-Argument.i c.in-Argument.ensures.step c.requires.good,
+        omega (arith, c.requires.fits, ap length q, length-append (shown (env_of c.args.env.now) c.in-Argument.i) (says decode (env_of c.args.env.now) (take (length c.args.left.now.bytes.now - 2) (drop 2 c.args.left.now.bytes.now))), ap (λ v. length (shown_by figures v)) c.get.ensures, c.put-arg.ensures.long, c.put-arg.ensures.holds.place),
+      ),
+    )
+
+pub unreachable-requires : goal.unreachable-requires
+unreachable-requires t c = no_unknown (kinds (values_of c.args.env.now.args)) c.args.left.now.bytes.now _ c.in-Unknown.ensures.step c.requires.good
+
+pub unreachable-requires-in-Cut : goal.unreachable-requires-in-Cut
+unreachable-requires-in-Cut t c = no_cut (kinds (values_of c.args.env.now.args)) c.args.left.now.bytes.now c.in-Cut.ensures.step c.requires.good
+
+pub returns-in-End : goal.returns-in-End
+returns-in-End t c =
+    record { same = search rules; long = search rules; holds = holds_none c.args.out.now.at c.args.out.now.room.now (says decode (env_of c.args.env.now) c.args.left.now.bytes.now) (ends_says c.args.env.now c.args.left.now.bytes.now c.in-End.ensures.step c.requires.good) }
+
+pub returns-in-Letters : goal.returns-in-Letters
+returns-in-Letters t c =
     record {
-      same = c.put.ensures.same ∙ c.put-step.ensures.same;
-      long = c.put.ensures.long ∙ c.put-step.ensures.long;
-      holds = holds_more _ _ _ _ _ _ _ _ _ (on_says c.args.env.now c.args.left.now.bytes.now (seen c.step-step.result) c.size-size.result c.in-Some.distance c.step-step.ensures.step c.requires.good on) c.put-step.ensures.holds c.put.ensures.holds;
+      same = c.put.ensures.same ∙ c.push.ensures.same;
+      long = c.put.ensures.long ∙ c.push.ensures.long;
+      holds = holds_more _ _ _ _ _ _ _ _ _ (letters_says c.args.env.now c.args.left.now.bytes.now c.in-Letters.letters.now c.in-Letters.ensures.step c.requires.good) c.push.ensures.holds c.put.ensures.holds;
+    }
+
+pub returns-in-Argument : goal.returns-in-Argument
+returns-in-Argument t c =
+    record {
+      same = c.put-in-Argument.ensures.same ∙ c.put-arg.ensures.same;
+      long = c.put-in-Argument.ensures.long ∙ c.put-arg.ensures.long;
+      holds = holds_more _ _ _ _ _ _ _ _ _
+          (argument_says c.args.env.now c.args.left.now.bytes.now c.in-Argument.i c.in-Argument.ensures.step c.requires.good ∙ ap (λ v. shown_by figures v ++ says decode (env_of c.args.env.now) (take (length c.args.left.now.bytes.now - 2) (drop 2 c.args.left.now.bytes.now))) (sym c.get.ensures))
+          c.put-arg.ensures.holds c.put-in-Argument.ensures.holds;
     }

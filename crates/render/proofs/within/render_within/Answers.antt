@@ -6,7 +6,7 @@ use Rattle.render.specs.Told.{values_in, wrong_thing, thing_refusal}
 use Rattle.render.specs.View.{values_of, env_of, env_in}
 use Rattle.render.specs.Saying.{Measured}
 use Rattle.render.proofs.Things.{told_right, things_wrong}
-use Rattle.render.proofs.Stepping.{measured_done}
+use Rattle.render.proofs.Steps.{measured_done}
 use Rattle.render.proofs.Rooms.{was_spoken}
 use Rattle.render.proofs.within.render_within.Goals as goal
 
@@ -31,7 +31,6 @@ put-all-requires c =
     let m : Measured (run decode c.args.budget (env_of v) (going bytes [])) 0 c.measure.new.total true = rw c.code-left.ensures at c.if-not-measure.ensures in
     let d = measured_done v bytes c.args.budget 0 c.measure.new.total g m in
     record {
-      short = omega (arith, ap length c.code.ensures, c.args.message.now.short);
       good = ap (good decode (kinds (values_of c.new.result))) c.code.ensures ∙ g;
       fits = rw c.code.ensures (omega (arith, d.1, c.if-total-room.false));
     }

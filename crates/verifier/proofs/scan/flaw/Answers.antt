@@ -1,21 +1,30 @@
-use Rattle.std.proofs.Common.{is_some, sym, ap, ◌∙◌, arith}
-use Rattle.code.specs.View.{seen}
-use Rattle.verifier.proofs.Flaws.{asked_within, flaw_asked, flaw_exits}
+use Rattle.std.proofs.Common.{rules}
+use Rattle.verifier.proofs.Flaws.{flaw_is}
 use Rattle.verifier.proofs.scan.flaw.Goals as goal
 
-pub returns-then-is-some : goal.returns-then-is-some
-returns-then-is-some c =
-    flaw_asked c.args.kinds.now.bytes.now c.args.left.now.bytes.now (seen c.args.step) c.asks-flaw-asked.result c.requires.read c.asks-flaw-asked.ensures (sym c.if-is-some.ensures)
+pub returns-in-End : goal.returns-in-End
+returns-in-End c = flaw_is _ _ _ _ c.in-End.ensures.step (search rules)
 
-pub exits-flaw-requires : goal.exits-flaw-requires
-exits-flaw-requires c =
-    record {
-      short = c.requires.short;
-      right = c.requires.right;
-      size = omega (arith, c.requires.short, c.requires.size, asked_within c.args.kinds.now.bytes.now c.args.left.now.bytes.now (seen c.args.step) c.requires.read (sym (ap is_some c.asks-flaw-asked.ensures) ∙ sym c.if-is-some.ensures));
-    }
+pub returns-then-letters-len : goal.returns-then-letters-len
+returns-then-letters-len c = flaw_is _ _ _ _ c.in-Letters.ensures.step (search rules)
 
-pub returns : goal.returns
-returns c =
-    flaw_exits c.args.kinds.now.bytes.now c.args.left.now.bytes.now (seen c.args.step) c.args.size c.exits_flaw.result c.requires.read c.requires.size
-    (sym (ap is_some c.asks-flaw-asked.ensures) ∙ sym c.if-is-some.ensures) c.exits_flaw.ensures
+pub returns-else-letters-len : goal.returns-else-letters-len
+returns-else-letters-len c = flaw_is _ _ _ _ c.in-Letters.ensures.step (search rules)
+
+pub returns-then-i-kinds : goal.returns-then-i-kinds
+returns-then-i-kinds c = flaw_is _ _ _ _ c.in-Argument.ensures.step (search rules)
+
+pub returns-then-len-gt2 : goal.returns-then-len-gt2
+returns-then-len-gt2 c = flaw_is _ _ _ _ c.in-Argument.ensures.step (search rules)
+
+pub returns-else-len-gt2 : goal.returns-else-len-gt2
+returns-else-len-gt2 c = flaw_is _ _ _ _ c.in-Argument.ensures.step (search rules)
+
+pub returns-in-Unknown : goal.returns-in-Unknown
+returns-in-Unknown c = flaw_is _ _ _ _ c.in-Unknown.ensures.step (search rules)
+
+pub returns-then-len-gt0 : goal.returns-then-len-gt0
+returns-then-len-gt0 c = flaw_is _ _ _ _ c.in-Cut.ensures.step (search rules)
+
+pub returns-else-len-gt0 : goal.returns-else-len-gt0
+returns-else-len-gt0 c = flaw_is _ _ _ _ c.in-Cut.ensures.step (search rules)

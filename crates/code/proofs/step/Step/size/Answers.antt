@@ -21,11 +21,3 @@ returns-in-Unknown c = search rules
 pub returns-in-Cut : goal.returns-in-Cut
 unfolding size
 returns-in-Cut c = search rules
-
-pub returns-in-Select : goal.returns-in-Select
-unfolding size
-returns-in-Select c = search rules
-
-pub returns-in-Skip : goal.returns-in-Skip
-unfolding size
-returns-in-Skip c = search rules

@@ -1,2 +1,0 @@
--- What the contracts of `console` cite.
-pub mod Loaded
