@@ -1,4 +1,4 @@
 use Rattle.msgfile.proofs.told.+read_things.Given as goal
 
-abbrev pub decreases-read-things : goal.decreases-read-things
-decreases-read-things l = l.most
+abbrev pub decreases-read_things : goal.decreases-read_things
+decreases-read_things l = l.most

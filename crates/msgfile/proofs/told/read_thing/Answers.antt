@@ -2,10 +2,10 @@ use Rattle.std.proofs.Common.{refl, ◌∙◌, rules}
 use Rattle.msgfile.proofs.Things.{behind_name, no_kind, some_kind}
 use Rattle.msgfile.proofs.told.read_thing.Goals as goal
 
-pub returns-in-default : goal.returns-in-default
-returns-in-default c =
+pub returns-in_default : goal.returns-in_default
+returns-in_default c =
     let b = behind_name c.args.left.now.now c.unblanked-text.result.now c.unblanked-text-2.result.now c.span-name.result c.unblanked-text.ensures.value c.span-name.ensures.value c.if-name-eq0.false c.unblanked-text-2.ensures.value in
-    rw (b ∙ no_kind c.unblanked-text-2.result.now c.span_end.result c.span_end.ensures.value c.in-default.ensures) (record { thing = (refl, refl); within = search rules })
+    rw (b ∙ no_kind c.unblanked-text-2.result.now c.span_end.result c.span_end.ensures.value c.in_default.ensures) (record { thing = (refl, refl); within = search rules })
 
 pub returns : goal.returns
 returns c =

@@ -7,10 +7,10 @@ use Rattle.msgfile.proofs.told.read_told.Goals as goal
 
 pub returns : goal.returns
 returns c =
-    let some : eqb (length (unblanked c.args.line.now)) 0 ≡ false = ap (λ (u : List ℕ). eqb (length u) 0) (sym c.unblanked.ensures.value) ∙ sym c.if-is-empty.ensures in
-    let reads : Reads (vec_items c.args.kinds.now) (vec_items c.read-things.new.kinds) c.read-things.result (told_in c.args.line.now) =
-    rw some c.read-things.ensures in
+    let some : eqb (length (unblanked c.args.line.now)) 0 ≡ false = ap (λ (u : List ℕ). eqb (length u) 0) (sym c.unblanked.ensures.value) ∙ sym c.if-is_empty.ensures in
+    let reads : Reads (vec_items c.args.kinds.now) (vec_items c.read_things.new.kinds) c.read_things.result (told_in c.args.line.now) =
+    rw some c.read_things.ensures in
     record {
       told = reads;
-      within = fault_short (vec_items c.args.kinds.now) (vec_items c.read-things.new.kinds) c.read-things.result (told_in c.args.line.now) (length c.args.line.now) reads (told_short c.args.line.now);
+      within = fault_short (vec_items c.args.kinds.now) (vec_items c.read_things.new.kinds) c.read_things.result (told_in c.args.line.now) (length c.args.line.now) reads (told_short c.args.line.now);
     }

@@ -19,8 +19,8 @@ loop-rest-init c = (
   ap (λ (ys : List ℕ). figures c.args.n ++ ys) (drop_all 20 c.args.to.now (omega (arith, c.told-to))) ∙ append-nil (figures c.args.n),
 )
 
-pub overflow-sub-at : goal.overflow-sub-at
-overflow-sub-at c = omega (arith, (figures_few c.loop-rest.rest (omega arith)).0)
+pub overflow_sub-at : goal.overflow_sub-at
+overflow_sub-at c = omega (arith, (figures_few c.loop-rest.rest (omega arith)).0)
 
 pub loop-rest-preserved : goal.loop-rest-preserved
 loop-rest-preserved c =
@@ -34,8 +34,8 @@ loop-rest-preserved c =
           ∙ ap (λ (xs : List ℕ). xs ++ drop c.loop-rest.at c.loop-rest.to) (sym step) ∙ c.loop-rest.invariant.4,
     )
 
-pub overflow-sub-at-2 : goal.overflow-sub-at-2
-overflow-sub-at-2 c = omega (arith, (figures_few c.loop-rest.rest (omega arith)).0)
+pub overflow_sub-at-2 : goal.overflow_sub-at-2
+overflow_sub-at-2 c = omega (arith, (figures_few c.loop-rest.rest (omega arith)).0)
 
 pub returns : goal.returns
 returns c =

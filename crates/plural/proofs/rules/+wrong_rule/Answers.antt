@@ -6,12 +6,12 @@ use Rattle.plural.proofs.Ruled.{wrong_none, wrong_short, wrong_many, wrong_here,
 use Rattle.plural.proofs.rules.+wrong_rule.Goals as goal
 use Rattle.plural.proofs.rules.+wrong_rule.Goals.{then-most-eq0-via-then-most-eq0, then-most-eq0-via-else-most-eq0+then-modulus-eq0, then-most-eq0-via-else-most-eq0+else-modulus-eq0+then-class-gt5}
 
-pub returns-then-is-empty : goal.returns-then-is-empty
-returns-then-is-empty t c = wrong_none c.args.most c.args.left.now (eqb-true (length c.args.left.now) 0 (sym c.if-is-empty.ensures))
+pub returns-then-is_empty : goal.returns-then-is_empty
+returns-then-is_empty t c = wrong_none c.args.most c.args.left.now (eqb-true (length c.args.left.now) 0 (sym c.if-is_empty.ensures))
 
-pub returns-else-is-empty : goal.returns-else-is-empty
-returns-else-is-empty t c =
-    wrong_short c.args.most c.args.left.now (omega (arith, eqb-false (length c.args.left.now) 0 (sym c.if-is-empty.ensures))) (omega (arith, ltb-true, ltb-false))
+pub returns-else-is_empty : goal.returns-else-is_empty
+returns-else-is_empty t c =
+    wrong_short c.args.most c.args.left.now (omega (arith, eqb-false (length c.args.left.now) 0 (sym c.if-is_empty.ensures))) (omega (arith, ltb-true, ltb-false))
 
 pub returns-then-most-eq0 : goal.returns-then-most-eq0
 returns-then-most-eq0 t c =
@@ -21,8 +21,8 @@ returns-then-most-eq0 t c =
       | then-most-eq0-via-else-most-eq0+else-modulus-eq0+then-class-gt5 w ↦ wrong_here c.args.most c.args.left.now (omega (arith, ltb-true, ltb-false)) (inr w.if-class-gt5.true)
     ]
 
-pub overflow-add-result : goal.overflow-add-result
-overflow-add-result t c = omega (arith, wrong_few (c.args.most - 1) _ c.in-Some.at (sym c.in-Some.ensures))
+pub overflow_add-result : goal.overflow_add-result
+overflow_add-result t c = omega (arith, wrong_few (c.args.most - 1) _ c.in-Some.at (sym c.in-Some.ensures))
 
 pub returns-in-Some : goal.returns-in-Some
 returns-in-Some t c =

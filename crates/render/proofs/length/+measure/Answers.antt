@@ -23,8 +23,8 @@ measure-requires t c =
 pub get-requires : goal.get-requires
 get-requires t c = told_argument (values_of c.args.env.now.args) c.args.left.now.bytes.now c.in-Argument.i c.in-Argument.ensures.step c.requires.good
 
-pub overflow-add-total-in-Argument : goal.overflow-add-total-in-Argument
-overflow-add-total-in-Argument t c =
+pub overflow_add-total-in-Argument : goal.overflow_add-total-in-Argument
+overflow_add-total-in-Argument t c =
     let few = shown_few c.args.env.now c.in-Argument.i (told_argument (values_of c.args.env.now.args) c.args.left.now.bytes.now c.in-Argument.i c.in-Argument.ensures.step c.requires.good) in
     omega (arith, c.requires.fits, c.in-Argument.ensures.within, few, c.arg-len.ensures, ap (λ v. length (shown_by figures v)) c.get.ensures)
 

@@ -26,8 +26,8 @@ put-requires t c =
 pub get-requires : goal.get-requires
 get-requires t c = told_argument (values_of c.args.env.now.args) c.args.left.now.bytes.now c.in-Argument.i c.in-Argument.ensures.step c.requires.good
 
-pub put-arg-requires : goal.put-arg-requires
-put-arg-requires t c =
+pub put_arg-requires : goal.put_arg-requires
+put_arg-requires t c =
     let q = argument_says c.args.env.now c.args.left.now.bytes.now c.in-Argument.i c.in-Argument.ensures.step c.requires.good in
     omega (arith, c.requires.fits, ap length q, length-append (shown (env_of c.args.env.now) c.in-Argument.i) (says decode (env_of c.args.env.now) (take (length c.args.left.now.bytes.now - 2) (drop 2 c.args.left.now.bytes.now))), ap (λ v. length (shown_by figures v)) c.get.ensures)
 
@@ -38,7 +38,7 @@ put-requires-in-Argument t c =
       search rules,
       (
         good_argument c.args.env.now c.args.left.now.bytes.now c.in-Argument.i c.in-Argument.ensures.step c.requires.good,
-        omega (arith, c.requires.fits, ap length q, length-append (shown (env_of c.args.env.now) c.in-Argument.i) (says decode (env_of c.args.env.now) (take (length c.args.left.now.bytes.now - 2) (drop 2 c.args.left.now.bytes.now))), ap (λ v. length (shown_by figures v)) c.get.ensures, c.put-arg.ensures.long, c.put-arg.ensures.holds.place),
+        omega (arith, c.requires.fits, ap length q, length-append (shown (env_of c.args.env.now) c.in-Argument.i) (says decode (env_of c.args.env.now) (take (length c.args.left.now.bytes.now - 2) (drop 2 c.args.left.now.bytes.now))), ap (λ v. length (shown_by figures v)) c.get.ensures, c.put_arg.ensures.long, c.put_arg.ensures.holds.place),
       ),
     )
 
@@ -63,9 +63,9 @@ returns-in-Letters t c =
 pub returns-in-Argument : goal.returns-in-Argument
 returns-in-Argument t c =
     record {
-      same = c.put-in-Argument.ensures.same ∙ c.put-arg.ensures.same;
-      long = c.put-in-Argument.ensures.long ∙ c.put-arg.ensures.long;
+      same = c.put-in-Argument.ensures.same ∙ c.put_arg.ensures.same;
+      long = c.put-in-Argument.ensures.long ∙ c.put_arg.ensures.long;
       holds = holds_more _ _ _ _ _ _ _ _ _
           (argument_says c.args.env.now c.args.left.now.bytes.now c.in-Argument.i c.in-Argument.ensures.step c.requires.good ∙ ap (λ v. shown_by figures v ++ says decode (env_of c.args.env.now) (take (length c.args.left.now.bytes.now - 2) (drop 2 c.args.left.now.bytes.now))) (sym c.get.ensures))
-          c.put-arg.ensures.holds c.put-in-Argument.ensures.holds;
+          c.put_arg.ensures.holds c.put-in-Argument.ensures.holds;
     }

@@ -6,31 +6,31 @@ use Rattle.render.specs.Told.{wrong_thing}
 use Rattle.render.proofs.Things.{none_wrong, surplus_wrong, missing_wrong, wrong_at, wrong_few}
 use Rattle.render.proofs.told.+wrong_thing.Goals as goal
 
-pub returns-then-is-empty : goal.returns-then-is-empty
-returns-then-is-empty t c = none_wrong c.args.letters.now c.args.told.now c.args.kinds.now (eqb-true (length c.args.told.now) 0 (sym c.if-is-empty.ensures)) (omega (arith, ltb-true, ltb-false))
+pub returns-then-is_empty : goal.returns-then-is_empty
+returns-then-is_empty t c = none_wrong c.args.letters.now c.args.told.now c.args.kinds.now (eqb-true (length c.args.told.now) 0 (sym c.if-is_empty.ensures)) (omega (arith, ltb-true, ltb-false))
 
-pub returns-else-is-empty : goal.returns-else-is-empty
-returns-else-is-empty t c =
-    surplus_wrong c.args.letters.now c.args.told.now c.args.kinds.now (omega (arith, eqb-false (length c.args.told.now) 0 (sym c.if-is-empty.ensures))) (omega (arith, ltb-true, ltb-false))
+pub returns-else-is_empty : goal.returns-else-is_empty
+returns-else-is_empty t c =
+    surplus_wrong c.args.letters.now c.args.told.now c.args.kinds.now (omega (arith, eqb-false (length c.args.told.now) 0 (sym c.if-is_empty.ensures))) (omega (arith, ltb-true, ltb-false))
 
-pub returns-in-default-told : goal.returns-in-default-told
-returns-in-default-told t c = missing_wrong c.args.letters.now c.args.told.now c.args.kinds.now (omega (arith, ltb-true, ltb-false)) (omega (arith, ltb-true, ltb-false))
+pub returns-in_default-told : goal.returns-in_default-told
+returns-in_default-told t c = missing_wrong c.args.letters.now c.args.told.now c.args.kinds.now (omega (arith, ltb-true, ltb-false)) (omega (arith, ltb-true, ltb-false))
 
-pub returns-then-not-thing-ok : goal.returns-then-not-thing-ok
-returns-then-not-thing-ok t c =
+pub returns-then-not-thing_ok : goal.returns-then-not-thing_ok
+returns-then-not-thing_ok t c =
     sym
     (wrong_at c.args.letters.now c.args.told.now c.args.kinds.now (omega (arith, ltb-true, ltb-false)) (omega (arith, ltb-true, ltb-false))
-    ∙ ap (λ (b : Bool). cond b (later (wrong_thing c.args.letters.now (drop 3 c.args.told.now) (drop 1 c.args.kinds.now))) (Some 0)) (sym c.if-not-thing-ok.ensures))
+    ∙ ap (λ (b : Bool). cond b (later (wrong_thing c.args.letters.now (drop 3 c.args.told.now) (drop 1 c.args.kinds.now))) (Some 0)) (sym c.if-not-thing_ok.ensures))
 
-pub overflow-add-result : goal.overflow-add-result
-overflow-add-result t c = omega (arith, wrong_few _ _ _ c.in-Some.at (sym c.in-Some.ensures))
+pub overflow_add-result : goal.overflow_add-result
+overflow_add-result t c = omega (arith, wrong_few _ _ _ c.in-Some.at (sym c.in-Some.ensures))
 
 pub returns-in-Some : goal.returns-in-Some
 returns-in-Some t c =
     let q : suc c.in-Some.at ≡ c.in-Some.at + 1 = omega arith in
     sym
     (wrong_at c.args.letters.now c.args.told.now c.args.kinds.now (omega (arith, ltb-true, ltb-false)) (omega (arith, ltb-true, ltb-false))
-    ∙ ap (λ (b : Bool). cond b (later (wrong_thing c.args.letters.now (drop 3 c.args.told.now) (drop 1 c.args.kinds.now))) (Some 0)) (sym c.if-not-thing-ok.ensures)
+    ∙ ap (λ (b : Bool). cond b (later (wrong_thing c.args.letters.now (drop 3 c.args.told.now) (drop 1 c.args.kinds.now))) (Some 0)) (sym c.if-not-thing_ok.ensures)
     ∙ ap later (sym (ap₂ (wrong_thing c.args.letters.now) (take_rest c.args.told.now 3) (take_rest c.args.kinds.now 1)) ∙ sym c.in-Some.ensures)
     ∙ ap Some q)
 
@@ -38,5 +38,5 @@ pub returns-in-None : goal.returns-in-None
 returns-in-None t c =
     sym
     (wrong_at c.args.letters.now c.args.told.now c.args.kinds.now (omega (arith, ltb-true, ltb-false)) (omega (arith, ltb-true, ltb-false))
-    ∙ ap (λ (b : Bool). cond b (later (wrong_thing c.args.letters.now (drop 3 c.args.told.now) (drop 1 c.args.kinds.now))) (Some 0)) (sym c.if-not-thing-ok.ensures)
+    ∙ ap (λ (b : Bool). cond b (later (wrong_thing c.args.letters.now (drop 3 c.args.told.now) (drop 1 c.args.kinds.now))) (Some 0)) (sym c.if-not-thing_ok.ensures)
     ∙ ap later (sym (ap₂ (wrong_thing c.args.letters.now) (take_rest c.args.told.now 3) (take_rest c.args.kinds.now 1)) ∙ sym c.in-None.ensures))

@@ -1,5 +1,5 @@
 use Rattle.std.proofs.Common.{length}
 use Rattle.render.proofs.told.+wrong_thing.Given as goal
 
-abbrev pub decreases-wrong-thing : goal.decreases-wrong-thing
-decreases-wrong-thing l = length l.kinds.now
+abbrev pub decreases-wrong_thing : goal.decreases-wrong_thing
+decreases-wrong_thing l = length l.kinds.now

@@ -13,7 +13,7 @@ use Rattle.render.proofs.within.render_within.Goals as goal
 pub measure-requires : goal.measure-requires
 measure-requires c =
     let bytes : List ℕ = c.args.message.now.code.bytes.now in
-    let well = told_right c.args.letters.now c.args.told.now c.kinds.result.now c.args.message.now.kinds.now c.in-default.ensures c.kinds.ensures in
+    let well = told_right c.args.letters.now c.args.told.now c.kinds.result.now c.args.message.now.kinds.now c.in_default.ensures c.kinds.ensures in
     let kinded : kinds (values_of c.new.result) ≡ c.args.message.now.kinds.now = ap₂ (λ (ls ts : List ℕ). kinds (values_in ls ts)) c.new.ensures.letters c.new.ensures.told ∙ well.1 in
     let g : good decode (kinds (values_of c.new.result)) bytes ≡ true = ap (λ (k : List ℕ). good decode k bytes) kinded ∙ c.args.message.now.good in
     record {
@@ -21,11 +21,11 @@ measure-requires c =
       fits = omega (arith, ap length c.code-left.ensures, c.args.message.now.short);
     }
 
-pub put-all-requires : goal.put-all-requires
-put-all-requires c =
+pub put_all-requires : goal.put_all-requires
+put_all-requires c =
     let v : Env = record { locale = c.args.locale.now; args = c.new.result } in
     let bytes : List ℕ = c.args.message.now.code.bytes.now in
-    let well = told_right c.args.letters.now c.args.told.now c.kinds.result.now c.args.message.now.kinds.now c.in-default.ensures c.kinds.ensures in
+    let well = told_right c.args.letters.now c.args.told.now c.kinds.result.now c.args.message.now.kinds.now c.in_default.ensures c.kinds.ensures in
     let kinded : kinds (values_of c.new.result) ≡ c.args.message.now.kinds.now = ap₂ (λ (ls ts : List ℕ). kinds (values_in ls ts)) c.new.ensures.letters c.new.ensures.told ∙ well.1 in
     let g : good decode (kinds (values_of c.new.result)) bytes ≡ true = ap (λ (k : List ℕ). good decode k bytes) kinded ∙ c.args.message.now.good in
     let m : Measured (run decode c.args.budget (env_of v) (going bytes [])) 0 c.measure.new.total true = rw c.code-left.ensures at c.if-not-measure.ensures in
@@ -39,7 +39,7 @@ pub returns : goal.returns
 returns c =
     let v : Env = record { locale = c.args.locale.now; args = c.new.result } in
     let bytes : List ℕ = c.args.message.now.code.bytes.now in
-    let well = told_right c.args.letters.now c.args.told.now c.kinds.result.now c.args.message.now.kinds.now c.in-default.ensures c.kinds.ensures in
+    let well = told_right c.args.letters.now c.args.told.now c.kinds.result.now c.args.message.now.kinds.now c.in_default.ensures c.kinds.ensures in
     let kinded : kinds (values_of c.new.result) ≡ c.args.message.now.kinds.now = ap₂ (λ (ls ts : List ℕ). kinds (values_in ls ts)) c.new.ensures.letters c.new.ensures.told ∙ well.1 in
     let g : good decode (kinds (values_of c.new.result)) bytes ≡ true = ap (λ (k : List ℕ). good decode k bytes) kinded ∙ c.args.message.now.good in
     let m : Measured (run decode c.args.budget (env_of v) (going bytes [])) 0 c.measure.new.total true = rw c.code-left.ensures at c.if-not-measure.ensures in
@@ -47,21 +47,21 @@ returns c =
     let same : env_of v ≡ env_in c.args.locale.now.rules.now c.args.letters.now c.args.told.now =
     ap₂ (env_in c.args.locale.now.rules.now) c.new.ensures.letters c.new.ensures.told in
     record {
-      answer = was_spoken _ _ (says decode (env_of v) bytes) c.args.room.now c.put-all.new.room c.measure.new.total
-          (ap thing_refusal (c.in-default.ensures ∙ ap (wrong_thing c.args.letters.now c.args.told.now) c.kinds.ensures))
+      answer = was_spoken _ _ (says decode (env_of v) bytes) c.args.room.now c.put_all.new.room c.measure.new.total
+          (ap thing_refusal (c.in_default.ensures ∙ ap (wrong_thing c.args.letters.now c.args.told.now) c.kinds.ensures))
           (ap (λ e. run decode c.args.budget e (going bytes [])) (sym same) ∙ d.0)
           (omega (arith, d.1)) (omega (arith, d.1, c.if-total-room.false))
-          (rw c.code.ensures at c.put-all.ensures);
+          (rw c.code.ensures at c.put_all.ensures);
       exactly = well;
     }
 
 pub returns-then-not-measure : goal.returns-then-not-measure
 returns-then-not-measure c =
-    record { answer = search rules; exactly = told_right c.args.letters.now c.args.told.now c.kinds.result.now c.args.message.now.kinds.now c.in-default.ensures c.kinds.ensures }
+    record { answer = search rules; exactly = told_right c.args.letters.now c.args.told.now c.kinds.result.now c.args.message.now.kinds.now c.in_default.ensures c.kinds.ensures }
 
 pub returns-then-total-room : goal.returns-then-total-room
 returns-then-total-room c =
-    record { answer = search rules; exactly = told_right c.args.letters.now c.args.told.now c.kinds.result.now c.args.message.now.kinds.now c.in-default.ensures c.kinds.ensures }
+    record { answer = search rules; exactly = told_right c.args.letters.now c.args.told.now c.kinds.result.now c.args.message.now.kinds.now c.in_default.ensures c.kinds.ensures }
 
 pub returns-in-Some : goal.returns-in-Some
 returns-in-Some c =
