@@ -26,7 +26,7 @@ get-requires t c = told_argument (values_of c.args.env.now.args) c.args.left.now
 pub overflow_add-total-in-Argument : goal.overflow_add-total-in-Argument
 overflow_add-total-in-Argument t c =
     let few = shown_few c.args.env.now c.in-Argument.i (told_argument (values_of c.args.env.now.args) c.args.left.now.bytes.now c.in-Argument.i c.in-Argument.ensures.step c.requires.good) in
-    omega (arith, c.requires.fits, c.in-Argument.ensures.within, few, c.arg-len.ensures, ap (λ v. length (shown_by figures v)) c.get.ensures)
+    omega (arith, c.requires.fits, c.in-Argument.ensures.within, few, c.arg_len.ensures, ap (λ v. length (shown_by figures v)) c.get.ensures)
 
 pub measure-requires-in-Argument : goal.measure-requires-in-Argument
 measure-requires-in-Argument t c =
@@ -34,7 +34,7 @@ measure-requires-in-Argument t c =
       omega (arith, c.decreases),
       (
         good_argument c.args.env.now c.args.left.now.bytes.now c.in-Argument.i c.in-Argument.ensures.step c.requires.good,
-        omega (arith, c.requires.fits, c.in-Argument.ensures.within, few, c.arg-len.ensures, ap (λ v. length (shown_by figures v)) c.get.ensures, length-take (length c.args.left.now.bytes.now - 2) (drop 2 c.args.left.now.bytes.now), length-drop 2 c.args.left.now.bytes.now),
+        omega (arith, c.requires.fits, c.in-Argument.ensures.within, few, c.arg_len.ensures, ap (λ v. length (shown_by figures v)) c.get.ensures, length-take (length c.args.left.now.bytes.now - 2) (drop 2 c.args.left.now.bytes.now), length-drop 2 c.args.left.now.bytes.now),
       ),
     )
 
@@ -52,6 +52,6 @@ returns-in-Letters t c = measured_letters c.args.env.now c.args.left.now.bytes.n
 
 pub returns-in-Argument : goal.returns-in-Argument
 returns-in-Argument t c =
-    let same : c.arg-len.result ≡ length (shown (env_of c.args.env.now) c.in-Argument.i) = c.arg-len.ensures ∙ ap (λ v. length (shown_by figures v)) c.get.ensures in
+    let same : c.arg_len.result ≡ length (shown (env_of c.args.env.now) c.in-Argument.i) = c.arg_len.ensures ∙ ap (λ v. length (shown_by figures v)) c.get.ensures in
     measured_argument c.args.env.now c.args.left.now.bytes.now c.in-Argument.i c.args.budget c.args.total.now c.measure-in-Argument.new.total c.measure-in-Argument.result c.if-budget-eq0.false c.in-Argument.ensures.step c.requires.good
     (rw same at c.measure-in-Argument.ensures)
