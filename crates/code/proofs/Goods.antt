@@ -1,5 +1,5 @@
 -- Good code is good from each step on. Assumes nothing.
-use Rattle.std.proofs.Common.{◌≡◌, ℕ, zero, suc, pred, ◌+◌, ◌-◌, ◌<◌, Bool, true, false, cond, ltb, List, [], ◌∷◌, length, get_or, drop, refl, arith}
+use Rattle.std.proofs.Common.{◌≡◌, ℕ, zero, suc, pred, ◌+◌, ◌<◌, Bool, true, false, cond, ltb, List, [], ◌∷◌, length, get_or, drop, refl, arith}
 use Rattle.std.proofs.lemmas.Bool.{true≢false, false≢true, ltb-true, and_parts, lt-ltb, and_from}
 use Rattle.code.specs.Step.{Step, size, whole, exits, needs}
 use Rattle.code.specs.Code.{each, on_by, begins, step_good, good_on, good, bad_at}

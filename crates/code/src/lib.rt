@@ -1,4 +1,6 @@
 // The code of a message: its steps and how they are read, its limits, what refuses it, and what is promised of all code.
+#![tactic(auto)]
+
 mod left;
 mod promises;
 mod refusal;

@@ -1,4 +1,6 @@
 // msgc checks the code of messages: `good`, or the first step that isn't, and why.
+#![tactic(auto)]
+
 use anyhow::anyhow;
 use code::Refusal;
 use msgfile::{Expected, ReadError, Source, position_of, read_message};

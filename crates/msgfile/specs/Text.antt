@@ -1,5 +1,5 @@
 -- Text by its bytes: blanks, words, and how long a front of one kind is. Assumes nothing: these are definitions.
-use Rattle.std.specs.Prelude.{ℕ, suc, ◌+◌, ◌-◌, Bool, true, false, cond, not, ◌&&◌, ◌||◌, List, [], ◌∷◌, drop, Some, None, Option, ◌==◌, nat_le}
+use Rattle.std.specs.Prelude.{ℕ, suc, ◌+◌, Bool, true, false, cond, not, ◌&&◌, ◌||◌, List, [], ◌∷◌, drop, Some, None, Option, ◌==◌, nat_le}
 use Rattle.msgfile.specs.declared.class.Class as class
 use Rattle.msgfile.specs.declared.place.Position as position
 

@@ -1,4 +1,6 @@
 // Message files: the code of a message and the kinds of what it is told, as text.
+#![tactic(auto)]
+
 mod class;
 mod fault;
 mod file;

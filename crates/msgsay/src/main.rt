@@ -1,4 +1,6 @@
 // msgsay says a message: it reads the message from a file, is told things, and prints the sentence.
+#![tactic(auto)]
+
 use anyhow::anyhow;
 use code::Refusal;
 use msgfile::{

@@ -1,7 +1,6 @@
 -- Rules that pass, and the classes that they give. Assumes nothing.
 use Rattle.std.proofs.Common.{◌≡◌, ℕ, zero, suc, ◌+◌, ◌-◌, ◌*◌, ◌<◌, ◌≤◌, Bool, true, false, cond, ◌&&◌, leb, ◌⊎◌, List, [], ◌∷◌, length, get_or, drop, is_some, Some, None, Option, sym, refl, ap, ◌∙◌, subst, inl, inr, arith}
 use Rattle.std.proofs.lemmas.Bool.{true≢false, le-leb, lt-leb, leb-true, and_parts, and_from, and_left, and_right, cond_both}
-use Rattle.code.specs.declared.refusal.Refusal as refusal
 use Rattle.plural.specs.Rules.{rules_in, fits, class_by, class_in, later, wrong_rule, rule_refusal, rules_fault, RuleWell}
 
 pub wrong_none : (n : ℕ) (rs : List ℕ) → length rs ≡ 0 → None ≡ wrong_rule n rs

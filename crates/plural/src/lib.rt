@@ -1,4 +1,6 @@
 // A locale: the rules by which it puts numbers into plural classes, and numbers in figures.
+#![tactic(auto)]
+
 mod figures;
 mod locale;
 mod promises;

@@ -1,7 +1,7 @@
 -- Saying whole: within as many steps as there are bytes, good code comes to all that it says. Assumes nothing.
 use Rattle.std.proofs.Common.{◌≡◌, ℕ, ◌≤◌, true, false, List, [], length, is_some, Some, None, Ok, Err, Option, Result, refl, subst, arith}
 use Rattle.code.specs.Step.{kinds, Env, decode}
-use Rattle.code.specs.Code.{State, going, good, run, says, way}
+use Rattle.code.specs.Code.{State, going, good, run, says}
 use Rattle.code.specs.Promise.{Six}
 use Rattle.code.specs.declared.refusal.Refusal.{Refusal}
 use Rattle.code.proofs.Whole.{decode_reads}

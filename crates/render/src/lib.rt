@@ -1,4 +1,6 @@
 // Saying: a message with its arguments, in a locale, put into a room.
+#![tactic(auto)]
+
 mod answer;
 mod arg;
 mod args;

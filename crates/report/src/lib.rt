@@ -1,4 +1,6 @@
 // Answers in words, for whoever runs the programs.
+#![tactic(auto)]
+
 mod faults;
 mod flaws;
 mod refusals;

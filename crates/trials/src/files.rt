@@ -11,8 +11,8 @@ fn told_and_code(rt: HostRuntime) -> Result<(), Fail> {
     ) else {
         return Err(Fail::new("it can't be read"));
     };
-    assert!(rt; source.kinds.as_slice() == &[0, 1]);
-    assert!(rt; source.code.as_slice() == &[2, 0, 255, 7]);
+    assert!(rt; source.kinds.as_slice() == [0, 1].as_slice());
+    assert!(rt; source.code.as_slice() == [2, 0, 255, 7].as_slice());
     Ok(())
 }
 
@@ -21,7 +21,7 @@ fn nothing_told(rt: HostRuntime) -> Result<(), Fail> {
     let Ok(source) = read_message(rt.alloc(), b"told# nothing\n0") else {
         return Err(Fail::new("it can't be read"));
     };
-    assert!(rt; source.kinds.is_empty() && source.code.as_slice() == &[0]);
+    assert!(rt; source.kinds.is_empty() && source.code.as_slice() == [0].as_slice());
     Ok(())
 }
 

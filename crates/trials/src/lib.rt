@@ -1,3 +1,5 @@
+#![tactic(auto)]
+
 // Trials: what the library answers on examples, run beside the proofs.
 #[cfg(test)]
 mod files;

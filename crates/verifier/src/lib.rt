@@ -1,4 +1,6 @@
 // The verifier: code is good or it isn't, and then the first step that isn't good is named, and why.
+#![tactic(auto)]
+
 mod entry;
 mod faults;
 mod flaw;
