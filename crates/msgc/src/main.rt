@@ -1,12 +1,12 @@
 // msgc checks the code of messages: `good`, or the first step that isn't, and why.
 #![tactic(auto)]
 
-use anyhow::anyhow;
 use code::Refusal;
 use msgfile::{Expected, ReadError, Source, position_of, read_message};
 use report::{ExpectedWords, FlawWords, RefusalWords};
 use std::alloc::AllocError;
 use std::io::Read;
+use std::process::ExitCode;
 use std::{env, fs, io};
 use verifier::{Flaw, explain, verify};
 
@@ -164,13 +164,15 @@ fn obey(rt: &HostRuntime) -> io::Result<bool> {
     }
 }
 
-fn main(rt: HostRuntime) -> anyhow::Result<()> {
+// A status of 1 says that not all is good; why was told on the way.
+fn main(rt: HostRuntime) -> ExitCode {
     match obey(&rt) {
-        Ok(true) => Ok(()),
-        Ok(false) => Err(anyhow!("not all is good")),
+        Ok(true) => ExitCode::SUCCESS,
+        Ok(false) => ExitCode::FAILURE,
         Err(error) => {
-            eprintln!(rt; "msgc: {error}")?;
-            Err(error.into())
+            // Where standard error is closed too, the status alone says it.
+            let _ = eprintln!(rt; "msgc: {error}");
+            ExitCode::FAILURE
         }
     }
 }

@@ -1,7 +1,6 @@
 // msgsay says a message: it reads the message from a file, is told things, and prints the sentence.
 #![tactic(auto)]
 
-use anyhow::anyhow;
 use code::Refusal;
 use msgfile::{
     Expected, ReadError, Source, TellError, position_of, read_message, tell_number, tell_text,
@@ -11,6 +10,7 @@ use render::{Answer, render};
 use report::{ExpectedWords, FlawWords, RefusalWords};
 use std::alloc::{AllocError, Global};
 use std::io::{Read, Write};
+use std::process::ExitCode;
 use std::{env, fs, io};
 use verifier::{Message, explain, verify};
 
@@ -382,13 +382,15 @@ fn obey(rt: &HostRuntime) -> io::Result<bool> {
     run(rt, path, things)
 }
 
-fn main(rt: HostRuntime) -> anyhow::Result<()> {
+// A status of 1 says that not all was said; why was told on the way.
+fn main(rt: HostRuntime) -> ExitCode {
     match obey(&rt) {
-        Ok(true) => Ok(()),
-        Ok(false) => Err(anyhow!("not all was said")),
+        Ok(true) => ExitCode::SUCCESS,
+        Ok(false) => ExitCode::FAILURE,
         Err(error) => {
-            eprintln!(rt; "msgsay: {error}")?;
-            Err(error.into())
+            // Where standard error is closed too, the status alone says it.
+            let _ = eprintln!(rt; "msgsay: {error}");
+            ExitCode::FAILURE
         }
     }
 }
