@@ -2,10 +2,10 @@
 use Rattle.std.proofs.Common.{◌≡◌, ℕ, zero, suc, ◌+◌, ◌-◌, ◌*◌, ◌<◌, ◌≤◌, Bool, true, false, cond, ltb, ◌⊎◌, List, [], ◌∷◌, ◌++◌, length, get_or, sym, refl, ap, ◌∙◌, subst, inl, inr, mul-le-mul_right, add-mul, suc-add, zero-add, arith, length-append, length-drop}
 use Rattle.std.proofs.lemmas.Bool.{true≢false, ltb-true, ltb-false}
 use Rattle.std.proofs.lemmas.List.{drop-append-le}
-use Rattle.code.specs.Step.{kinds, Env, shown, Step, size, exits, needs, pick, output}
+use Rattle.code.specs.Step.{Value, kinds, Env, shown, Step, size, exits, needs, pick, output}
 use Rattle.code.specs.Code.{State, going, done, stuck, follow, on_by, good, step, next, run}
-use Rattle.code.specs.Promise.{Six, Ended, behind}
-use Rattle.code.proofs.Laws.{size_pos, pick_fits, output_short}
+use Rattle.code.specs.Promise.{Six, Alike, Ended, behind}
+use Rattle.code.proofs.Laws.{size_pos, pick_fits, output_short, alike_output, alike_pick}
 use Rattle.code.proofs.Whole.{Reads}
 use Rattle.code.proofs.Goods.{good_here, exit_within, exit_good, good_some}
 
@@ -115,6 +115,28 @@ module _ (read : List ℕ → Step) where
           let same : o ≡ u = cc in
           omega (arith, long w.0, ap length w.2, ap length same, mul-le-mul_right {m = size (read r)} {n = length r} m (omega arith))
       go ih stuck w q = let x = run_stuck b e in let z : ◌≡◌ {A = ℕ} 0 1 = cc in absurd (omega arith)
+
+  step_alike : (e f : Env) → Alike e f → (r out : List ℕ) → step read e r out ≡ step read f r out
+  unfolding step
+  step_alike e f a r out = go (needs (read r) (kinds e.arguments)) refl
+    where
+      same : needs (read r) (kinds e.arguments) ≡ needs (read r) (kinds f.arguments)
+      same = ap (λ (vs : List Value). needs (read r) (kinds vs)) a.arguments
+
+      go : (c : Bool) → needs (read r) (kinds e.arguments) ≡ c → step read e r out ≡ step read f r out
+      go false h = rw (sym same, h) refl
+      go true h = rw (sym same, h) (ap (follow (done out) (λ d. going (on_by read r d) out) (exits (read r))) (alike_pick (read r) e f a h))
+
+  next_alike : (e f : Env) → Alike e f → (s : State) → next read e s ≡ next read f s
+  unfolding next
+  next_alike e f a (going r out) = ap (λ (v : List ℕ). step read e r (out ++ v)) (alike_output (read r) e f a) ∙ step_alike e f a r (out ++ output (read r) f)
+  next_alike e f a (done out) = refl
+  next_alike e f a stuck = refl
+
+  pub only_classes : (b : ℕ) (s : State) (e f : Env) → Alike e f → run read b e s ≡ run read b f s
+  unfolding run
+  only_classes zero s e f a = refl
+  only_classes (suc b) s e f a = ap (run read b e) (next_alike e f a s) ∙ only_classes b (next read f s) e f a
 
   pub on_behind : (r t : List ℕ) (d : ℕ) → read (r ++ t) ≡ read r → size (read r) + d < length r → on_by read (r ++ t) d ≡ on_by read r d ++ t
   unfolding on_by

@@ -1,6 +1,6 @@
 -- What is promised of all code. Each is a statement, a type whose proof is owed by the function that names it. Assumes nothing.
 use Rattle.std.specs.Prelude.{◌≡◌, ℕ, zero, ◌+◌, ◌*◌, ◌<◌, ◌≤◌, true, false, List, [], ◌∷◌, ◌++◌, length, drop, slice_index}
-use Rattle.code.specs.Step.{kinds, Env, shown, Step, size, whole, exits, needs, Table, read_by, decode}
+use Rattle.code.specs.Step.{number, kinds, value_at, Env, shown, Step, size, whole, exits, needs, Table, read_by, decode}
 use Rattle.code.specs.Code.{State, going, done, stuck, next, run, bad_at, good, met, outputs, way}
 
 -- the locale's classes are 0 to 5
@@ -33,6 +33,16 @@ NotTooLong =
     → ((i : ℕ) → i < length e.arguments → length (shown e i) ≤ m)
     → run decode b e (going c []) ≡ done u
     → length u ≤ length c * m
+
+-- two environments tell the same, put the numbers told in the same classes, and write them in the same way
+pub record Alike (e f : Env) : Type 0 where
+  pub arguments : e.arguments ≡ f.arguments
+  pub class : (i n : ℕ) → value_at e.arguments i ≡ number n → e.class n ≡ f.class n
+  pub figures : (i n : ℕ) → value_at e.arguments i ≡ number n → e.figures n ≡ f.figures n
+
+-- then the same code runs in the same way
+abbrev pub OnlyClasses : Type 0
+OnlyClasses = (s : State) (e f : Env) (b : ℕ) → Alike e f → run decode b e s ≡ run decode b f s
 
 -- the same, with something behind what is left
 abbrev pub behind : List ℕ → State → State

@@ -10,7 +10,7 @@ mod step;
 pub use left::Code;
 pub use promises::{
     added_behind, by_table, first_bad, good_exactly, kept, more_budget, never_stuck, not_too_long,
-    resumes, rows_widen, said_on_way,
+    only_classes, resumes, rows_widen, said_on_way,
 };
 pub use refusal::Refusal;
 pub use said::Said;

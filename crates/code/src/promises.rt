@@ -1,5 +1,5 @@
 // What is promised of all code: each function carries one theorem, and does nothing else.
-ghost use Rattle.code.specs.Promise.{NeverStuck, MoreBudget, Resumes, NotTooLong, AddedBehind, SaidOnWay, GoodExactly, FirstBad, Kept, RowsWiden, ByTable};
+ghost use Rattle.code.specs.Promise.{NeverStuck, MoreBudget, Resumes, NotTooLong, AddedBehind, SaidOnWay, GoodExactly, FirstBad, Kept, RowsWiden, ByTable, OnlyClasses};
 
 pub fn never_stuck() -> u8
     ensures { NeverStuck }
@@ -21,6 +21,12 @@ pub fn resumes() -> u8
 
 pub fn not_too_long() -> u8
     ensures { NotTooLong }
+{
+    0
+}
+
+pub fn only_classes() -> u8
+    ensures { OnlyClasses }
 {
     0
 }

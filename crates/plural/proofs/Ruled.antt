@@ -142,6 +142,9 @@ none_is (Some k) h = absurd (true≢false h)
 pub passed : (rs : List ℕ) → is_some (wrong_rule 20 rs) ≡ false → (n : ℕ) → class_in rs n < 6
 passed rs h n = classes 20 rs (none_is (wrong_rule 20 rs) h) n
 
+pub passed_well : (rs : List ℕ) → is_some (wrong_rule 20 rs) ≡ false → (i : ℕ) → 6 * i < length rs → RuleWell 20 rs i
+passed_well rs h = well_all 20 rs (none_is (wrong_rule 20 rs) h)
+
 pub no_fault : (rs : List ℕ) → rules_fault rs ≡ None → wrong_rule 20 rs ≡ None
 no_fault rs = go (wrong_rule 20 rs)
   where

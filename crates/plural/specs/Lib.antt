@@ -1,5 +1,6 @@
 -- What the contracts of `plural` cite.
 pub mod Figures
 pub mod Rules
+pub mod Class
 pub mod View
 pub mod Promise

@@ -1,6 +1,7 @@
 // A locale: the rules by which it puts numbers into plural classes, and numbers in figures.
 #![tactic(auto)]
 
+mod class;
 mod figures;
 mod locale;
 mod promises;
@@ -8,4 +9,4 @@ mod rules;
 
 pub use figures::{FIGURES, figures_len, read_figures, write_figures};
 pub use locale::Locale;
-pub use promises::{classes_below_six, figures_exactly, figures_read_back};
+pub use promises::{class_exactly, classes_below_six, figures_exactly, figures_read_back};

@@ -3,3 +3,4 @@ pub mod Told
 pub mod View
 pub mod Room
 pub mod Saying
+pub mod Promise

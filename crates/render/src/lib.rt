@@ -7,6 +7,7 @@ mod args;
 mod entry;
 mod env;
 mod length;
+mod promises;
 mod put;
 mod told;
 mod within;
@@ -15,4 +16,5 @@ mod writer;
 
 pub use answer::Answer;
 pub use entry::{render, say, try_say};
+pub use promises::same_classes;
 pub use within::render_within;

@@ -1,0 +1,8 @@
+// What is promised of saying: the function carries a theorem, and does nothing else.
+ghost use Rattle.render.specs.Promise.{SameClasses};
+
+pub fn same_classes() -> u8
+    ensures { SameClasses }
+{
+    0
+}
