@@ -2,13 +2,14 @@
 #![tactic(auto)]
 
 use code::Refusal;
-use msgfile::{Expected, ReadError, Source, position_of, read_message};
-use report::{ExpectedWords, FlawWords, RefusalWords};
-use std::alloc::AllocError;
-use std::io::Read;
+use console::{ended, is_input, load_message, words_of};
+use msgfile::Source;
+use report::{FlawWords, RefusalWords, Refused};
+use std::io;
 use std::process::ExitCode;
-use std::{env, fs, io};
 use verifier::{Flaw, explain, verify};
+
+const PROGRAM: &str = "msgc";
 
 const HELP: &str = "msgc checks the code of messages.
 
@@ -54,66 +55,18 @@ fn check_source(rt: &HostRuntime, label: &str, source: &Source) -> io::Result<bo
             Ok(false)
         }
         Err(refusal) => {
-            let number = refusal.number();
-            let place = refusal.place();
+            let refused = Refused(refusal);
             let why = RefusalWords(refusal);
-            println!(rt; "{label}refused {number} at {place}: {why}")?;
+            println!(rt; "{label}{refused}: {why}")?;
             Ok(false)
         }
     }
-}
-
-// Says where a text can't be read.
-fn tell_fault(
-    rt: &HostRuntime,
-    name: &str,
-    text: &[u8],
-    expected: Expected,
-    left: usize,
-) -> io::Result<bool> {
-    let position = position_of(text, left);
-    let line = position.line;
-    let column = position.column;
-    let why = ExpectedWords(expected);
-    eprintln!(rt; "msgc: {name}:{line}:{column}: {why}")?;
-    Ok(false)
-}
-
-fn check_text(rt: &HostRuntime, label: &str, name: &str, text: &[u8]) -> io::Result<bool> {
-    match read_message(rt.alloc(), text) {
-        Ok(source) => check_source(rt, label, &source),
-        Err(ReadError::Wrong(expected, left)) => tell_fault(rt, name, text, expected, left),
-        Err(ReadError::Memory) => Err(AllocError.into()),
-    }
-}
-
-fn read_input(rt: &HostRuntime) -> io::Result<Vec<u8>> {
-    let mut text = Vec::new(rt.alloc());
-    rt.stdin().read_to_end(&mut text)?;
-    Ok(text)
-}
-
-fn read_file(rt: &HostRuntime, path: &str) -> io::Result<Vec<u8>> {
-    if path == "-" {
-        read_input(rt)
-    } else {
-        fs::read(rt, path)
-    }
-}
-
-// What a file is called in a report.
-fn name_of(path: &str) -> &str {
-    if path == "-" { "standard input" } else { path }
 }
 
 fn check_file(rt: &HostRuntime, label: &str, path: &str) -> io::Result<bool> {
-    let name = name_of(path);
-    match read_file(rt, path) {
-        Ok(text) => check_text(rt, label, name, text.as_slice()),
-        Err(error) => {
-            eprintln!(rt; "msgc: {name}: {error}")?;
-            Ok(false)
-        }
+    match load_message(rt, PROGRAM, path)? {
+        Some(source) => check_source(rt, label, &source),
+        None => Ok(false),
     }
 }
 
@@ -140,7 +93,7 @@ fn run(rt: &HostRuntime, paths: &[String]) -> io::Result<bool> {
 fn option(words: &[String]) -> Option<&str> {
     for word in words {
         let word = word.as_str();
-        if word.starts_with('-') && word != "-" {
+        if word.starts_with('-') && !is_input(word) {
             return Some(word);
         }
     }
@@ -149,7 +102,7 @@ fn option(words: &[String]) -> Option<&str> {
 
 // Does what the words ask for; whether all is good.
 fn obey(rt: &HostRuntime) -> io::Result<bool> {
-    let words: Vec<String> = env::args(rt)?.skip(1).collect(rt.alloc())?;
+    let words = words_of(rt)?;
     let words = words.as_slice();
     match option(words) {
         Some("-h" | "--help") => {
@@ -164,15 +117,6 @@ fn obey(rt: &HostRuntime) -> io::Result<bool> {
     }
 }
 
-// A status of 1 says that not all is good; why was told on the way.
 fn main(rt: HostRuntime) -> ExitCode {
-    match obey(&rt) {
-        Ok(true) => ExitCode::SUCCESS,
-        Ok(false) => ExitCode::FAILURE,
-        Err(error) => {
-            // Where standard error is closed too, the status alone says it.
-            let _ = eprintln!(rt; "msgc: {error}");
-            ExitCode::FAILURE
-        }
-    }
+    ended(&rt, PROGRAM, obey(&rt))
 }

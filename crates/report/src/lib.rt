@@ -7,4 +7,4 @@ mod refusals;
 
 pub use faults::ExpectedWords;
 pub use flaws::FlawWords;
-pub use refusals::RefusalWords;
+pub use refusals::{RefusalWords, Refused};

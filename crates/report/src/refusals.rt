@@ -1,6 +1,17 @@
-// Refusals in words; the programs print the number and the place before them.
+// Refusals: number and place, and in words.
 use code::Refusal;
 use std::fmt;
+
+#[derive(Clone, Copy)]
+pub struct Refused(pub Refusal);
+
+impl fmt::Display for Refused {
+    fn fmt<W: fmt::Write>(&self, f: &mut fmt::Formatter<W>) -> fmt::Result {
+        let number = self.0.number();
+        let place = self.0.place();
+        write!(f, "refused {number} at {place}")
+    }
+}
 
 #[derive(Clone, Copy)]
 pub struct RefusalWords(pub Refusal);

@@ -1,5 +1,5 @@
 use Rattle.std.proofs.Common.{◌≤◌}
-use Rattle.msgsay.proofs.say_line.Given as goal
+use Rattle.msgsay.proofs.saying.say_line.Given as goal
 
 abbrev pub invariant-loop-at : goal.invariant-loop-at
 invariant-loop-at l = l.start ≤ l.at

@@ -1,0 +1,2 @@
+-- What the contracts of `console` cite.
+pub mod Loaded
