@@ -2,6 +2,8 @@
 
 // Trials: what the library answers on examples, run beside the proofs.
 #[cfg(test)]
+mod classes;
+#[cfg(test)]
 mod files;
 #[cfg(test)]
 mod helpers;
