@@ -1,6 +1,6 @@
+// Trials: what the library answers on examples, run beside the proofs.
 #![tactic(auto)]
 
-// Trials: what the library answers on examples, run beside the proofs.
 #[cfg(test)]
 mod classes;
 #[cfg(test)]
