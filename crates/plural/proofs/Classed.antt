@@ -1,5 +1,5 @@
 -- The class of a number: one rule more, and what a class says in words. Assumes nothing.
-use Rattle.std.proofs.Common.{◌≡◌, ℕ, zero, suc, ◌+◌, ◌*◌, ◌%◌, ◌<◌, ◌≤◌, Bool, true, false, cond, ◌&&◌, leb, ◌⊎◌, List, [], ◌∷◌, length, get_or, take, drop, is_some, sym, refl, ap, ◌∙◌, subst, inl, inr, arith, length-drop}
+use Rattle.std.proofs.Common.{◌≡◌, ℕ, zero, suc, ◌+◌, ◌*◌, ◌%◌, ◌<◌, ◌≤◌, Bool, true, false, cond, ◌&&◌, leb, List, [], ◌∷◌, length, get_or, take, drop, is_some, sym, refl, ap, ◌∙◌, subst, inl, inr, arith, length-drop}
 use Rattle.std.proofs.lemmas.Bool.{true≢false, le-leb, leb-true, and_parts, and_from, and_left, cases_order, cond-true, cond-false, cond_both}
 use Rattle.std.proofs.lemmas.List.{get_or-take, get_or-drop}
 use Rattle.plural.specs.Class.{rule_of, RuleFits, ClassIs}
