@@ -4,3 +4,4 @@ pub mod Code
 pub mod Promise
 pub mod View
 pub mod Refused
+pub mod Kinds

@@ -2,6 +2,7 @@
 use Rattle.std.specs.Prelude.{ℕ}
 use Rattle.code.specs.declared.refusal.Refusal.{Refusal}
 use Rattle.code.specs.declared.refusal.Refusal.TheVariants.{LongCode, ManyKinds, Kind, Step, Rule, Argument}
+use Rattle.code.specs.declared.said.Said as said
 
 -- 1 a limit; 2 a kind; 3 code that isn't good; 4 the rules; 5 the things told
 abbrev pub number_of : Refusal → ℕ
@@ -20,3 +21,7 @@ place_of (Kind at) = at
 place_of (Step at) = at
 place_of (Rule at) = at
 place_of (Argument at) = at
+
+-- the entries answer the number alone
+abbrev pub refused_as : Refusal → said.Said
+refused_as f = said.TheVariants.Refused (number_of f)

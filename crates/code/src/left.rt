@@ -1,11 +1,11 @@
 // Code, or what is left of it: bytes, gone through from the first one.
-ghost use Rattle.std.specs.Prelude.{◌≡◌};
-ghost use Rattle.code.specs.Step.{decode};
+ghost use Rattle.std.specs.Prelude.{◌≡◌, drop};
+ghost use Rattle.code.specs.Step.{size, decode};
 ghost use Rattle.code.specs.View.{seen, Within};
 
 use crate::step::Step;
 
-#[derive(Clone, Copy)]
+#[derive(Clone, Copy, Debug, PartialEq, Eq)]
 pub struct Code<'a> {
     pub bytes: &'a [u8],
 }
@@ -31,5 +31,19 @@ impl<'a> Code<'a> {
             [0..=2, ..] | [] => Step::Cut,
             [x, ..] => Step::Unknown(*x),
         }
+    }
+
+    // The step that begins here, and what is left behind it.
+    pub fn split_step(self) -> (Step<'a>, Code<'a>)
+        ensures step { seen result.0 ≡ decode self.entry.bytes.now }
+        ensures within { Within self.entry.bytes.now result.0 }
+        ensures rest { result.1.bytes.now ≡ drop (size (decode self.entry.bytes.now)) self.entry.bytes.now }
+    {
+        let step = self.step();
+        let end = step.size().min(self.bytes.len());
+        let rest = Code {
+            bytes: &self.bytes[end..],
+        };
+        (step, rest)
     }
 }

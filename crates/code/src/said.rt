@@ -1,6 +1,10 @@
 // What the entries answer.
+ghost use Rattle.std.specs.Prelude.{◌≡◌};
+ghost use Rattle.code.specs.Refused.{refused_as};
 
-#[derive(Clone, Copy)]
+use crate::refusal::Refusal;
+
+#[derive(Clone, Copy, Debug, PartialEq, Eq)]
 pub enum Said {
     Good,
     Bad,
@@ -10,4 +14,12 @@ pub enum Said {
     Short(u64),
     // The number of the refusal.
     Refused(u64),
+}
+
+impl From<Refusal> for Said {
+    ghost from_gives = { λ refusal said. said ≡ refused_as refusal };
+
+    fn from(refusal: Refusal) -> Said {
+        Said::Refused(refusal.number())
+    }
 }

@@ -3,7 +3,7 @@ ghost use Rattle.std.specs.Prelude.{◌≡◌};
 ghost use Rattle.code.specs.Step.{size};
 ghost use Rattle.code.specs.View.{seen};
 
-#[derive(Clone, Copy)]
+#[derive(Clone, Copy, Debug, PartialEq, Eq)]
 pub enum Step<'a> {
     // 0: it ends.
     End,
@@ -19,6 +19,7 @@ pub enum Step<'a> {
 
 impl Step<'_> {
     // How many bytes it takes.
+    #[tactic(auto, unfolding(crate::specs::Step::size))]
     pub fn size(self) -> usize
         ensures { result ≡ size (seen self.entry) }
     {

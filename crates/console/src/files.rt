@@ -1,70 +1,65 @@
 // Files that are read; where one can't be, it is told why.
 ghost use Rattle.console.specs.Loaded.{Loaded};
 
+use crate::program::Console;
 use crate::words::{is_input, name_of};
 use msgfile::{ReadError, Source, position_of, read_message};
-use report::ExpectedWords;
 use std::alloc::AllocError;
 use std::io::Read;
 use std::{fs, io};
 
-pub fn read_input(rt: &HostRuntime) -> io::Result<Vec<u8>> {
-    let mut text = Vec::new(rt.alloc());
-    rt.stdin().read_to_end(&mut text)?;
-    Ok(text)
-}
-
-fn read_file(rt: &HostRuntime, path: &str) -> io::Result<Vec<u8>> {
-    if is_input(path) {
-        read_input(rt)
-    } else {
-        fs::read(rt, path)
+impl Console<'_> {
+    pub fn read_input(&self) -> io::Result<Vec<u8>> {
+        let mut text = Vec::new(self.rt.alloc());
+        self.rt.stdin().read_to_end(&mut text)?;
+        Ok(text)
     }
-}
 
-// The text of a file, if it can be read.
-fn text_of(rt: &HostRuntime, program: &str, path: &str) -> io::Result<Option<Vec<u8>>> {
-    match read_file(rt, path) {
-        Ok(text) => Ok(Some(text)),
-        Err(error) => {
-            let name = name_of(path);
-            eprintln!(rt; "{program}: {name}: {error}")?;
-            Ok(None)
+    fn read_file(&self, path: &str) -> io::Result<Vec<u8>> {
+        if is_input(path) {
+            self.read_input()
+        } else {
+            fs::read(self.rt, path)
         }
     }
-}
 
-// Tells where a text can't be read, by line and column, and what was expected there.
-fn tell_fault(
-    rt: &HostRuntime,
-    program: &str,
-    path: &str,
-    text: &[u8],
-    error: ReadError,
-) -> io::Result<()> {
-    let ReadError::Wrong(expected, left) = error else {
-        return Err(AllocError.into());
-    };
-    let name = name_of(path);
-    let position = position_of(text, left);
-    let line = position.line;
-    let column = position.column;
-    let why = ExpectedWords(expected);
-    eprintln!(rt; "{program}: {name}:{line}:{column}: {why}")
-}
+    // The text of a file, if it can be read.
+    fn text_of(&self, path: &str) -> io::Result<Option<Vec<u8>>> {
+        match self.read_file(path) {
+            Ok(text) => Ok(Some(text)),
+            Err(error) => {
+                let program = self.program;
+                let name = name_of(path);
+                eprintln!(self.rt; "{program}: {name}: {error}")?;
+                Ok(None)
+            }
+        }
+    }
 
-// The message of a file, if it can be read.
-pub fn load_message(rt: &HostRuntime, program: &str, path: &str) -> io::Result<Option<Source>>
-    ensures { Loaded result }
-{
-    let Some(text) = text_of(rt, program, path)? else {
-        return Ok(None);
-    };
-    match read_message(rt.alloc(), text.as_slice()) {
-        Ok(source) => Ok(Some(source)),
-        Err(error) => {
-            tell_fault(rt, program, path, text.as_slice(), error)?;
-            Ok(None)
+    // Tells where a text can't be read, by line and column, and what was expected there.
+    fn tell_fault(&self, path: &str, text: &[u8], error: ReadError) -> io::Result<()> {
+        let ReadError::Wrong(expected, left) = error else {
+            return Err(AllocError.into());
+        };
+        let program = self.program;
+        let name = name_of(path);
+        let position = position_of(text, left);
+        eprintln!(self.rt; "{program}: {name}:{position}: {expected}")
+    }
+
+    // The message of a file, if it can be read.
+    pub fn load_message(&self, path: &str) -> io::Result<Option<Source>>
+        ensures { Loaded result }
+    {
+        let Some(text) = self.text_of(path)? else {
+            return Ok(None);
+        };
+        match read_message(self.rt.alloc(), text.as_slice()) {
+            Ok(source) => Ok(Some(source)),
+            Err(error) => {
+                self.tell_fault(path, text.as_slice(), error)?;
+                Ok(None)
+            }
         }
     }
 }

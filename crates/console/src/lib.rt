@@ -3,8 +3,9 @@
 
 mod files;
 mod outcome;
+mod program;
 mod words;
 
-pub use files::{load_message, read_input};
-pub use outcome::{ended, tell_bad, tell_refusal};
-pub use words::{is_input, words_of};
+pub use outcome::Misuse;
+pub use program::Console;
+pub use words::{is_help, is_input, is_option};

@@ -1,18 +1,25 @@
 // The words that a program is run with.
-ghost use Rattle.std.specs.Prelude.{◌≡◌, codes, Decides, ◌≢◌};
-
-use std::{env, io};
-
-// The words behind the program's name.
-pub fn words_of(rt: &HostRuntime) -> io::Result<Vec<String>> {
-    Ok(env::args(rt)?.skip(1).collect(rt.alloc())?)
-}
+ghost use Rattle.std.specs.Prelude.{◌≡◌, ◌≢◌, ◌<◌, ◌⊎◌, codes, length, slice_index, Decides};
 
 // Whether a path names standard input: a dash alone does.
 pub fn is_input(path: &str) -> bool
     ensures { Decides result (path.now ≡ codes "-") }
 {
     path == "-"
+}
+
+// Whether a word asks for help.
+pub fn is_help(word: &str) -> bool
+    ensures { Decides result ((word.now ≡ codes "-h") ⊎ (word.now ≡ codes "--help")) }
+{
+    word == "-h" || word == "--help"
+}
+
+// Whether a word is an option: it begins with a dash, and isn't the one that names standard input.
+pub fn is_option(word: &str) -> bool
+    ensures { Decides result ((1 < length word.now) × (slice_index word.now 0 ≡ 45)) }
+{
+    word.starts_with('-') && !is_input(word)
 }
 
 // What a file is called in a report.

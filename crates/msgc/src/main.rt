@@ -1,15 +1,10 @@
 // msgc checks the code of messages: `good`, or the first step that isn't, and why.
 #![tactic(auto)]
 
-use code::Refusal;
-use console::{ended, is_input, load_message, words_of};
-use msgfile::Source;
-use report::{FlawWords, RefusalWords, Refused};
+use console::{Console, Misuse, is_help, is_option};
+use report::Verdict;
 use std::io;
 use std::process::ExitCode;
-use verifier::{Flaw, explain, verify};
-
-const PROGRAM: &str = "msgc";
 
 const HELP: &str = "msgc checks the code of messages.
 
@@ -34,89 +29,56 @@ options:
   -h, --help   print this
 ";
 
-// Checks what was read, and prints the answer behind what its line begins with.
-fn check_source(rt: &HostRuntime, label: &str, source: &Source) -> io::Result<bool> {
-    let code = source.code.as_slice();
-    let kinds = source.kinds.as_slice();
-    match verify(code, kinds) {
-        Ok(()) => {
-            println!(rt; "{label}good")?;
-            Ok(true)
-        }
-        Err(Refusal::Step(at)) => {
-            match explain(code, kinds, at) {
-                Some(Flaw::Empty) => println!(rt; "{label}bad: there is no step")?,
-                Some(flaw) => {
-                    let why = FlawWords(flaw);
-                    println!(rt; "{label}bad: the step at byte {at}: {why}")?
-                }
-                None => println!(rt; "{label}bad: the step at byte {at}")?,
-            }
-            Ok(false)
-        }
-        Err(refusal) => {
-            let refused = Refused(refusal);
-            let why = RefusalWords(refusal);
-            println!(rt; "{label}{refused}: {why}")?;
-            Ok(false)
-        }
-    }
-}
-
-fn check_file(rt: &HostRuntime, label: &str, path: &str) -> io::Result<bool> {
-    match load_message(rt, PROGRAM, path)? {
-        Some(source) => check_source(rt, label, &source),
-        None => Ok(false),
-    }
+// Checks a file, and prints the answer behind what its line begins with; whether it is good.
+fn check_file(console: &Console, label: &str, path: &str) -> io::Result<bool> {
+    let Some(source) = console.load_message(path)? else {
+        return Ok(false);
+    };
+    let verdict = Verdict::of(source.code.as_slice(), source.kinds.as_slice());
+    println!(console.rt; "{label}{verdict}")?;
+    Ok(verdict == Verdict::Good)
 }
 
 // Checks each file that is named, or standard input; whether all is good.
-fn run(rt: &HostRuntime, paths: &[String]) -> io::Result<bool> {
+fn run(console: &Console, paths: &[String]) -> io::Result<bool> {
     match paths {
-        [] => check_file(rt, "", "-"),
-        [path] => check_file(rt, "", path.as_str()),
+        [] => check_file(console, "", "-"),
+        [path] => check_file(console, "", path.as_str()),
         _ => {
             let mut good = true;
             for path in paths {
-                let path = path.as_str();
-                let label = format!(in rt.alloc(); "{path}: ")?;
-                if !check_file(rt, label.as_str(), path)? {
-                    good = false;
-                }
+                let label = format!(in console.rt.alloc(); "{path}: ")?;
+                good &= check_file(console, label.as_str(), path.as_str())?;
             }
             Ok(good)
         }
     }
 }
 
-// The first word that is an option, if any is: `-` alone names standard input.
-fn option(words: &[String]) -> Option<&str> {
-    for word in words {
-        let word = word.as_str();
-        if word.starts_with('-') && !is_input(word) {
-            return Some(word);
-        }
-    }
-    None
-}
-
 // Does what the words ask for; whether all is good.
-fn obey(rt: &HostRuntime) -> io::Result<bool> {
-    let words = words_of(rt)?;
-    let words = words.as_slice();
-    match option(words) {
-        Some("-h" | "--help") => {
-            rt.print(HELP)?;
+fn obey(console: &Console) -> io::Result<bool> {
+    let words = console.words()?;
+    match words
+        .iter()
+        .map(String::as_str)
+        .find(|word| is_option(word))
+    {
+        Some(word) if is_help(word) => {
+            console.rt.print(HELP)?;
             Ok(true)
         }
         Some(word) => {
-            eprintln!(rt; "msgc: {word} is no option; see msgc --help")?;
+            console.tell_misuse(Misuse::NoOption(word))?;
             Ok(false)
         }
-        None => run(rt, words),
+        None => run(console, words.as_slice()),
     }
 }
 
 fn main(rt: HostRuntime) -> ExitCode {
-    ended(&rt, PROGRAM, obey(&rt))
+    let console = Console {
+        rt: &rt,
+        program: "msgc",
+    };
+    console.ended(obey(&console))
 }

@@ -1,87 +1,80 @@
--- Fronts of a text, byte by byte. Assumes nothing.
-use Rattle.std.proofs.Common.{◌≡◌, ℕ, suc, ◌+◌, ◌<◌, ◌≤◌, Bool, true, false, cond, ◌&&◌, eqb, leb, List, [], ◌∷◌, length, get_or, drop, Some, None, refl, ap, ◌∙◌, ap₂, arith}
-use Rattle.std.proofs.lemmas.Bool.{false≢true, and_parts, and_right, eq-eqb, ne_eqb}
-use Rattle.std.proofs.lemmas.List.{drop_more, drop_all}
-use Rattle.msgfile.specs.declared.place.Position.{Position}
-use Rattle.msgfile.specs.Text.{span, skip, skip_on, skipped, same, moved_on, position_from}
+-- Fronts of a text. Assumes nothing.
+use Rattle.std.proofs.Common.{◌≡◌, ℕ, suc, ◌+◌, ◌<◌, Bool, true, false, cond, not, eqb, List, [], ◌∷◌, length, drop, Some, None, Option, refl, sym, ap, ◌∙◌, arith, length-drop}
+use Rattle.std.proofs.lemmas.Bool.{ne_eqb}
+use Rattle.std.proofs.lemmas.Bool.Decides.{nat_tests}
+use Rattle.msgfile.specs.Text.{space, span, skip, skip_on, skipped, uncommented}
 
-span_cons : (p : ℕ → Bool) (b : ℕ) (bs : List ℕ) → span p (b ∷ bs) ≡ cond (p b) (suc (span p bs)) 0
-unfolding span
-span_cons p b bs = refl
+-- behind a front there is what is behind it without its first byte, or all, if that doesn't pass
+front_more : (p : ℕ → Bool) (b : ℕ) (bs : List ℕ) → p b ≡ true → drop (span p (b ∷ bs)) (b ∷ bs) ≡ drop (span p bs) bs
+front_more p b bs h =
+    let e : 1 + span p bs ≡ suc (span p bs) = omega arith in
+    ap (λ (t : Bool). drop (cond t (1 + span p bs) 0) (b ∷ bs)) h ∙ ap (λ (k : ℕ). drop k (b ∷ bs)) e
 
-pub span_more : (p : ℕ → Bool) (bs : List ℕ) (i : ℕ) → i < length bs → p (get_or bs i 0) ≡ true → span p (drop i bs) ≡ 1 + span p (drop (i + 1) bs)
-span_more p bs i l h =
-    ap (span p) (drop_more bs i 0 l) ∙ span_cons p (get_or bs i 0) (drop (i + 1) bs) ∙ ap (λ (t : Bool). cond t (suc (span p (drop (i + 1) bs))) 0) h
-    ∙ (let e : suc (span p (drop (i + 1) bs)) ≡ 1 + span p (drop (i + 1) bs) = omega arith in e)
+front_none : (p : ℕ → Bool) (b : ℕ) (bs : List ℕ) → p b ≡ false → drop (span p (b ∷ bs)) (b ∷ bs) ≡ b ∷ bs
+front_none p b bs h = ap (λ (t : Bool). drop (cond t (1 + span p bs) 0) (b ∷ bs)) h
 
-pub span_stop : (p : ℕ → Bool) (bs : List ℕ) (i : ℕ) → i < length bs → p (get_or bs i 0) ≡ false → span p (drop i bs) ≡ 0
-span_stop p bs i l h = ap (span p) (drop_more bs i 0 l) ∙ span_cons p (get_or bs i 0) (drop (i + 1) bs) ∙ ap (λ (t : Bool). cond t (suc (span p (drop (i + 1) bs))) 0) h
-
-pub span_end : (p : ℕ → Bool) (bs : List ℕ) (i : ℕ) → length bs ≤ i → span p (drop i bs) ≡ 0
-unfolding span
-span_end p bs i l = ap (span p) (drop_all i bs l)
-
-skipped_cons : (c : Bool) (b : ℕ) (bs : List ℕ) → skipped c (b ∷ bs) ≡ skip_on (λ d. skipped d bs) (skip c b)
+-- the same of spaces and comments
+skipped_more : (c d : Bool) (b : ℕ) (bs : List ℕ) → skip c b ≡ Some d → drop (skipped c (b ∷ bs)) (b ∷ bs) ≡ drop (skipped d bs) bs
 unfolding skipped
-skipped_cons c b bs = refl
+skipped_more c d b bs h = ap (λ (o : Option Bool). drop (skip_on (λ e. skipped e bs) o) (b ∷ bs)) h
 
-pub skipped_more : (c d : Bool) (bs : List ℕ) (i : ℕ) → i < length bs → skip c (get_or bs i 0) ≡ Some d → skipped c (drop i bs) ≡ 1 + skipped d (drop (i + 1) bs)
-skipped_more c d bs i l h =
-    ap (skipped c) (drop_more bs i 0 l) ∙ skipped_cons c (get_or bs i 0) (drop (i + 1) bs) ∙ ap (skip_on (λ e. skipped e (drop (i + 1) bs))) h
-    ∙ (let e : suc (skipped d (drop (i + 1) bs)) ≡ 1 + skipped d (drop (i + 1) bs) = omega arith in e)
-
-pub skipped_stop : (c : Bool) (bs : List ℕ) (i : ℕ) → i < length bs → skip c (get_or bs i 0) ≡ None → skipped c (drop i bs) ≡ 0
-skipped_stop c bs i l h = ap (skipped c) (drop_more bs i 0 l) ∙ skipped_cons c (get_or bs i 0) (drop (i + 1) bs) ∙ ap (skip_on (λ e. skipped e (drop (i + 1) bs))) h
-
-pub skipped_end : (c : Bool) (bs : List ℕ) (i : ℕ) → length bs ≤ i → skipped c (drop i bs) ≡ 0
+skipped_none : (b : ℕ) (bs : List ℕ) → skip false b ≡ None → uncommented (b ∷ bs) ≡ b ∷ bs
 unfolding skipped
-skipped_end c bs i l = ap (skipped c) (drop_all i bs l)
+skipped_none b bs h = ap (λ (o : Option Bool). drop (skip_on (λ e. skipped e bs) o) (b ∷ bs)) h
 
--- two words, byte by byte
-pub same_long : (v w : List ℕ) → (length v ≡ length w → ⊥) → same v w ≡ false
-unfolding same
-same_long [] [] h = absurd (h refl)
-same_long [] (b ∷ w) h = refl
-same_long (a ∷ v) [] h = refl
-same_long (a ∷ v) (b ∷ w) h = and_right (eqb a b) (same v w) (same_long v w (λ q. h (ap suc q)))
+skip_space : (b : ℕ) → space b ≡ true → skip false b ≡ Some false
+skip_space b h = ap (λ (t : Bool). cond t (Some false) (cond (eqb b 35) (Some true) None)) h
 
-same_cons : (a b : ℕ) (v w : List ℕ) → same (a ∷ v) (b ∷ w) ≡ (eqb a b && same v w)
-unfolding same
-same_cons a b v w = refl
-
-same_at : (v w : List ℕ) (i : ℕ) → i < length v → i < length w → same (drop i v) (drop i w) ≡ (eqb (get_or v i 0) (get_or w i 0) && same (drop (i + 1) v) (drop (i + 1) w))
-same_at v w i l m = ap₂ same (drop_more v i 0 l) (drop_more w i 0 m) ∙ same_cons (get_or v i 0) (get_or w i 0) (drop (i + 1) v) (drop (i + 1) w)
-
-pub same_more : (v w : List ℕ) (i : ℕ) → i < length v → i < length w → get_or v i 0 ≡ get_or w i 0 → same (drop i v) (drop i w) ≡ same (drop (i + 1) v) (drop (i + 1) w)
-same_more v w i l m q = same_at v w i l m ∙ ap (λ (t : Bool). t && same (drop (i + 1) v) (drop (i + 1) w)) (eq-eqb (get_or v i 0) (get_or w i 0) q)
-
-pub same_stop : (v w : List ℕ) (i : ℕ) → i < length v → i < length w → (get_or v i 0 ≡ get_or w i 0 → ⊥) → same (drop i v) (drop i w) ≡ false
-same_stop v w i l m q = same_at v w i l m ∙ ap (λ (t : Bool). t && same (drop (i + 1) v) (drop (i + 1) w)) (ne_eqb (get_or v i 0) (get_or w i 0) q)
-
-pub same_end : (v w : List ℕ) (i : ℕ) → length v ≤ i → length w ≤ i → same (drop i v) (drop i w) ≡ true
-unfolding same
-same_end v w i l m = ap₂ same (drop_all i v l) (drop_all i w m)
-
-pub same_length : (v w : List ℕ) → same v w ≡ true → length v ≡ length w
-unfolding same
-same_length [] [] h = refl
-same_length [] (b ∷ w) h = absurd (false≢true h)
-same_length (a ∷ v) [] h = absurd (false≢true h)
-same_length (a ∷ v) (b ∷ w) h = ap suc (same_length v w (and_parts (eqb a b) (same v w) h).1)
-
--- positions, byte by byte
-pub position_more : (p : Position) (bs : List ℕ) (i : ℕ) → i < length bs → position_from p (drop i bs) ≡ position_from (moved_on p (get_or bs i 0)) (drop (i + 1) bs)
-unfolding position_from
-position_more p bs i l = ap (position_from p) (drop_more bs i 0 l)
-
-pub position_end : (p : Position) (bs : List ℕ) (i : ℕ) → length bs ≤ i → position_from p (drop i bs) ≡ p
-unfolding position_from
-position_end p bs i l = ap (position_from p) (drop_all i bs l)
-
-pub moved_few : (p : Position) (b n : ℕ) → p.line ≤ n → p.column ≤ n → 1 ≤ n → ((moved_on p b).line ≤ n + 1) × ((moved_on p b).column ≤ n + 1)
-moved_few p b n l m k = go (eqb b 10) (leb 128 b && leb b 191)
+-- spaces are skipped
+spaces_skipped : (bs : List ℕ) → uncommented (drop (span space bs) bs) ≡ uncommented bs
+spaces_skipped [] = refl
+spaces_skipped (b ∷ bs) = go (space b) refl (spaces_skipped bs)
   where
-    go : (s t : Bool) → ((cond s (record { line = p.line + 1; column = 1 }) (cond t p (record { line = p.line; column = p.column + 1 }))).line ≤ n + 1) × ((cond s (record { line = p.line + 1; column = 1 }) (cond t p (record { line = p.line; column = p.column + 1 }))).column ≤ n + 1)
-    go true t = (omega arith, omega arith)
-    go false true = (omega arith, omega arith)
-    go false false = (omega arith, omega arith)
+    go : (t : Bool) → space b ≡ t → uncommented (drop (span space bs) bs) ≡ uncommented bs → uncommented (drop (span space (b ∷ bs)) (b ∷ bs)) ≡ uncommented (b ∷ bs)
+    go true e ih = ap uncommented (front_more space b bs e) ∙ ih ∙ sym (skipped_more false false b bs (skip_space b e))
+    go false e ih = ap uncommented (front_none space b bs e)
+
+-- a comment is skipped as far as the end of its line
+abbrev pub unended : ℕ → Bool
+unended b = not (eqb b 10)
+
+rest_skipped : (bs : List ℕ) → uncommented (drop (span unended bs) bs) ≡ drop (skipped true bs) bs
+unfolding skipped
+rest_skipped [] = refl
+rest_skipped (b ∷ bs) = go (eqb b 10) refl (rest_skipped bs)
+  where
+    go : (t : Bool) → eqb b 10 ≡ t → uncommented (drop (span unended bs) bs) ≡ drop (skipped true bs) bs → uncommented (drop (span unended (b ∷ bs)) (b ∷ bs)) ≡ drop (skipped true (b ∷ bs)) (b ∷ bs)
+    go true e ih =
+        let s : space b ≡ true = grind (arith, nat_tests) in
+        ap uncommented (front_none unended b bs (ap not e)) ∙ skipped_more false false b bs (skip_space b s) ∙ sym (skipped_more true false b bs (ap (λ (t : Bool). Some (not t)) e))
+    go false e ih = ap uncommented (front_more unended b bs (ap not e)) ∙ ih ∙ sym (skipped_more true true b bs (ap (λ (t : Bool). Some (not t)) e))
+
+comment_skipped : (bs cs : List ℕ) → bs ≡ 35 ∷ cs → uncommented (drop (span unended bs) bs) ≡ uncommented bs
+comment_skipped bs cs q = rw q (ap uncommented (front_more unended 35 cs refl) ∙ rest_skipped cs ∙ sym (skipped_more false true 35 cs refl))
+
+-- and is some bytes long
+comment_shorter : (bs cs : List ℕ) → bs ≡ 35 ∷ cs → length (drop (span unended bs) bs) < length bs
+comment_shorter bs cs q =
+    let e : length (drop (span unended (35 ∷ cs)) (35 ∷ cs)) ≡ length (drop (span unended cs) cs) = ap length (front_more unended 35 cs refl) in
+    rw q (omega (arith, e, length-drop (span unended cs) cs))
+
+-- spaces and a comment behind them
+pub turn : (a b c cs : List ℕ) → b ≡ drop (span space a) a → c ≡ drop (span unended b) b → b ≡ 35 ∷ cs → (uncommented c ≡ uncommented a) × (length c < length a)
+turn a b c cs p q h = (
+  ap uncommented q ∙ comment_skipped b cs h ∙ ap uncommented p ∙ spaces_skipped a,
+  omega (arith, ap length p, ap length q, length-drop (span space a) a, comment_shorter b cs h),
+)
+
+-- where no comment begins behind the spaces, all is skipped
+pub all_skipped : (bs r : List ℕ) → r ≡ drop (span space bs) bs → ((cs : List ℕ) → r ≡ 35 ∷ cs → ⊥) → r ≡ uncommented bs
+unfolding skipped
+all_skipped [] r q h = q
+all_skipped (b ∷ bs) r q h = go (space b) refl (λ e. all_skipped bs r e h)
+  where
+    go : (t : Bool) → space b ≡ t → (r ≡ drop (span space bs) bs → r ≡ uncommented bs) → r ≡ uncommented (b ∷ bs)
+    go true e ih = ih (q ∙ front_more space b bs e) ∙ sym (skipped_more false false b bs (skip_space b e))
+    go false e ih =
+        let all : r ≡ b ∷ bs = q ∙ front_none space b bs e in
+        let n : eqb b 35 ≡ false = ne_eqb b 35 (λ k. h bs (all ∙ ap (λ (x : ℕ). x ∷ bs) k)) in
+        let s : skip false b ≡ None = grind (arith, nat_tests) in
+        all ∙ sym (skipped_none b bs s)

@@ -1,5 +1,4 @@
--- Lemmas by topic: Reading on the numbers of a text, Fronts on fronts of one class, Things on what is told, Files on a whole file.
+-- Lemmas by topic: Reading on the numbers of a text, Fronts on fronts of a text, Telling on what a line tells.
 pub mod Reading
 pub mod Fronts
-pub mod Things
-pub mod Files
+pub mod Telling

@@ -1,11 +1,12 @@
 -- A message file: what is told, on a line of its own, and then the code. Assumes nothing: these are definitions.
-use Rattle.std.specs.Prelude.{◌≡◌, ℕ, ◌+◌, ◌<◌, false, cond, List, [], length, take, drop, Ok, Err, vec_items, codes, Result}
-use Rattle.msgfile.specs.Text.{wordy, lined, span, skipped, same}
+use Rattle.std.specs.Prelude.{◌≡◌, ℕ, ◌+◌, ◌<◌, cond, List, [], length, take, drop, Ok, Err, vec_items, codes, Result}
+use Rattle.std.specs.Str.{bytes_eq}
+use Rattle.msgfile.specs.Text.{wordy, lined, span, uncommented}
 use Rattle.msgfile.specs.Numbers.{numbers_in}
 use Rattle.msgfile.specs.Told.{told_in}
 use Rattle.msgfile.specs.Read.{as_numbers}
-use Rattle.msgfile.specs.declared.fault.Expected.{Expected}
-use Rattle.msgfile.specs.declared.fault.ReadError as error
+use Rattle.msgfile.specs.declared.error.Expected.{Expected}
+use Rattle.msgfile.specs.declared.error.ReadError as error
 use Rattle.msgfile.specs.declared.source.Source.{Source}
 
 -- what was expected, with so much more left
@@ -35,11 +36,11 @@ told_then bs = both (further (length (drop (span lined bs) bs)) (told_in (take (
 
 -- without that word nothing is told
 abbrev pub body_in : List ℕ → Result (List ℕ × List ℕ) (Expected × ℕ)
-body_in bs = cond (same (take (span wordy bs) bs) (codes "told")) (told_then (drop 4 bs)) (both (Ok []) (as_numbers (numbers_in bs)))
+body_in bs = cond (bytes_eq (take (span wordy bs) bs) (codes "told")) (told_then (drop 4 bs)) (both (Ok []) (as_numbers (numbers_in bs)))
 
 -- a whole file: spaces and comments, and then that
 abbrev pub message_in : List ℕ → Result (List ℕ × List ℕ) (Expected × ℕ)
-message_in bs = body_in (drop (skipped false bs) bs)
+message_in bs = body_in (uncommented bs)
 
 -- what is answered is what the text says; want of memory may always come
 abbrev pub FileRead : Result Source error.ReadError → Result (List ℕ × List ℕ) (Expected × ℕ) → Type 0

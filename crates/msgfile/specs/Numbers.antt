@@ -29,7 +29,7 @@ ended (place.TheVariants.Number n) place.TheVariants.Comment = n ∷ []
 ended place.TheVariants.Comment q = []
 
 -- numbers before those that are read; a fault stays a fault
-abbrev pub with : List ℕ → Result (List ℕ) ℕ → Result (List ℕ) ℕ
+abbrev pub with : {E : Type 0} → List ℕ → Result (List ℕ) E → Result (List ℕ) E
 with ns (Ok ms) = Ok (ns ++ ms)
 with ns (Err k) = Err k
 

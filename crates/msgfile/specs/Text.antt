@@ -1,7 +1,7 @@
 -- Text by its bytes: blanks, words, and how long a front of one kind is. Assumes nothing: these are definitions.
-use Rattle.std.specs.Prelude.{ℕ, suc, ◌+◌, Bool, true, false, cond, not, ◌&&◌, ◌||◌, List, [], ◌∷◌, drop, Some, None, Option, ◌==◌, nat_le}
-use Rattle.msgfile.specs.declared.class.Class as class
-use Rattle.msgfile.specs.declared.place.Position as position
+use Rattle.std.specs.Prelude.{◌≡◌, ℕ, suc, ◌+◌, Bool, true, false, cond, not, ◌&&◌, ◌||◌, List, [], ◌∷◌, take, drop, Some, None, Option, ◌==◌, nat_le}
+use Rattle.std.specs.List.{fold, prefix_len}
+use Rattle.msgfile.specs.declared.position.Position as position
 
 -- a space, a tab or a carriage return
 abbrev pub blank : ℕ → Bool
@@ -19,16 +19,14 @@ wordy b = not (space b || (b == 44 || b == 35))
 abbrev pub lined : ℕ → Bool
 lined b = not (b == 10 || b == 35)
 
--- the test of each class
-abbrev pub belongs : class.Class → ℕ → Bool
-belongs class.TheVariants.Blank b = blank b
-belongs class.TheVariants.Word b = wordy b
-belongs class.TheVariants.Line b = lined b
-
 -- how many bytes at the front pass a test
-unfoldable pub span : (ℕ → Bool) → List ℕ → ℕ
-span p [] = 0
-span p (b ∷ bs) = cond (p b) (suc (span p bs)) 0
+abbrev pub span : (ℕ → Bool) → List ℕ → ℕ
+span p bs = prefix_len p bs
+
+-- a text cut behind its longest front whose bytes pass a test
+pub record SplitBy (p : ℕ → Bool) (bs v w : List ℕ) : Type 0 where
+  pub front : v ≡ take (span p bs) bs
+  pub rest : w ≡ drop (span p bs) bs
 
 -- what stands behind the blanks at the front
 abbrev pub unblanked : List ℕ → List ℕ
@@ -49,12 +47,9 @@ unfoldable pub skipped : (comment : Bool) → List ℕ → ℕ
 skipped c [] = 0
 skipped c (b ∷ bs) = skip_on (λ d. skipped d bs) (skip c b)
 
--- two words are the same
-unfoldable pub same : (v w : List ℕ) → Bool
-same [] [] = true
-same [] (b ∷ w) = false
-same (a ∷ v) [] = false
-same (a ∷ v) (b ∷ w) = a == b && same v w
+-- what stands behind the spaces and comments at the front
+abbrev pub uncommented : List ℕ → List ℕ
+uncommented bs = drop (skipped false bs) bs
 
 -- lines and columns, counted from 1; a letter of several bytes counts once, by its first byte
 abbrev pub moved_on : position.Position → ℕ → position.Position
@@ -63,9 +58,8 @@ moved_on p b =
     (cond (nat_le 128 b && nat_le b 191) p (record { line = p.line; column = p.column + 1 }))
 
 -- the position behind a text
-unfoldable pub position_from : position.Position → List ℕ → position.Position
-position_from p [] = p
-position_from p (b ∷ bs) = position_from (moved_on p b) bs
+abbrev pub position_from : position.Position → List ℕ → position.Position
+position_from p bs = fold moved_on p bs
 
 -- the position of the first byte
 abbrev pub start : position.Position

@@ -1,12 +1,13 @@
 -- What a message is told, as a line of text: names with their kinds, and commas between. Assumes nothing: these are definitions.
 use Rattle.std.specs.Prelude.{ℕ, zero, suc, cond, List, [], ◌∷◌, length, take, drop, Some, None, Ok, Err, codes, Option, Result, ◌==◌}
-use Rattle.msgfile.specs.Text.{wordy, span, unblanked, same}
-use Rattle.msgfile.specs.declared.fault.Expected.{Expected}
-use Rattle.msgfile.specs.declared.fault.Expected.TheVariants.{Name, Kind, Comma, Fewer}
+use Rattle.std.specs.Str.{bytes_eq}
+use Rattle.msgfile.specs.Text.{wordy, span, unblanked}
+use Rattle.msgfile.specs.declared.error.Expected.{Expected}
+use Rattle.msgfile.specs.declared.error.Expected.TheVariants.{Name, Kind, Comma, Fewer}
 
 -- `text` is kind 0, `number` kind 1
 abbrev pub kind_named : List ℕ → Option ℕ
-kind_named w = cond (same w (codes "text")) (Some 0) (cond (same w (codes "number")) (Some 1) None)
+kind_named w = cond (bytes_eq w (codes "text")) (Some 0) (cond (bytes_eq w (codes "number")) (Some 1) None)
 
 -- one thing: a name and a kind, and what stands behind them; or what is expected, and how much is left there
 abbrev pub kinded : List ℕ → Option ℕ → Result (ℕ × List ℕ) (Expected × ℕ)

@@ -1,8 +1,6 @@
 // What is promised of message files: the function carries a theorem, and does nothing else.
 ghost use Rattle.msgfile.specs.Promise.{WrittenBack};
 
-pub fn written_back() -> u8
+pub fn promise()
     ensures { WrittenBack }
-{
-    0
-}
+{}

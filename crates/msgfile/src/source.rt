@@ -1,8 +1,8 @@
 // What a message file holds.
 
-#[derive(Drop)]
+#[derive(Debug, Drop)]
 pub struct Source {
-    // The kinds of what is told: 0 a text, 1 a number.
+    // The kinds of what is told, 0 a text and 1 a number; as bytes, since the verifier's entry is lent them so.
     pub kinds: Vec<u8>,
     pub code: Vec<u8>,
 }

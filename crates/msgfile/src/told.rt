@@ -1,86 +1,71 @@
 // What a message is told, as a line of text: names with their kinds, and commas between.
-ghost use Rattle.std.specs.Prelude.{◌≡◌, ◌≤◌, length};
-ghost use Rattle.msgfile.specs.Text.{unblanked};
+ghost use Rattle.std.specs.Prelude.{◌≡◌, ◌≤◌, length, option_map, IfOk};
+ghost use Rattle.code.specs.Kinds.{number_of_kind};
 ghost use Rattle.msgfile.specs.Told.{kind_named, thing_in, things_in, told_in};
 ghost use Rattle.msgfile.specs.Read.{Reads, ThingRead, LeftWithin};
 
-use crate::class::Class;
-use crate::fault::{Expected, ReadError};
-use crate::words::{same, span};
+use crate::error::{Expected, ReadError};
+use crate::words::{split_word, unblanked};
+use code::Kind;
+use std::alloc::Global;
 
 // The most things that a line tells: far more than a message may be told, so that too many are refused as such.
 const MAX_THINGS: usize = 256;
 
-// `text` is 0, `number` is 1.
-fn kind_named(word: &[u8]) -> Option<u8>
-    ensures { result ≡ kind_named word.now }
+fn kind_named(word: &[u8]) -> Option<Kind>
+    ensures { option_map number_of_kind result ≡ kind_named word.now }
 {
-    if same(word, b"text") {
-        Some(0)
-    } else if same(word, b"number") {
-        Some(1)
-    } else {
-        None
+    match word {
+        b"text" => Some(Kind::Text),
+        b"number" => Some(Kind::Number),
+        _ => None,
     }
 }
 
-// What stands behind the blanks at the front.
-fn unblanked<'a>(text: &'a [u8]) -> &'a [u8]
-    ensures value { result.now ≡ unblanked text.now }
-    ensures within { length result.now ≤ length text.now }
+// The thing at the front: its kind, and what is left behind it.
+fn split_thing(text: &[u8]) -> Result<(Kind, &[u8]), ReadError>
+    ensures thing { ThingRead result (thing_in text.now) }
+    ensures shorter { IfOk result (λ thing. length thing.1.now ≤ length text.now) }
+    ensures within { LeftWithin (length text.now) result }
 {
-    &text[span(Class::Blank, text)..]
-}
-
-// One thing: its kind. What is left is what stands behind it.
-fn read_thing(left: &mut &[u8]) -> Result<u8, ReadError>
-    ensures thing { ThingRead result left.new.now (thing_in left.old.now) }
-    ensures within { length left.new.now ≤ length left.old.now }
-{
-    let text = unblanked(*left);
-    let name = span(Class::Word, text);
-    if name == 0 {
+    let text = unblanked(text);
+    let (name, rest) = split_word(text);
+    if name.is_empty() {
         return Err(ReadError::Wrong(Expected::Name, text.len()));
     }
-    let text = unblanked(&text[name..]);
-    let end = span(Class::Word, text);
-    let Some(kind) = kind_named(&text[0..end]) else {
-        return Err(ReadError::Wrong(Expected::Kind, text.len()));
-    };
-    *left = &text[end..];
-    Ok(kind)
+    let text = unblanked(rest);
+    let (word, rest) = split_word(text);
+    let kind = kind_named(word).ok_or(ReadError::Wrong(Expected::Kind, text.len()))?;
+    Ok((kind, rest))
 }
 
-// All things of a line, of at most so many: their kinds are added.
-fn read_things(left: &mut &[u8], most: usize, kinds: &mut Vec<u8>) -> Result<(), ReadError>
-    ensures { Reads kinds.old.items kinds.new.items result (things_in most left.old.now) }
+// The kinds of all things of a line.
+#[tactic(auto, using(crate::proofs::Telling::things_none, crate::proofs::Telling::thing_last))]
+fn read_things(heap: Global, line: &[u8]) -> Result<Vec<u8>, ReadError>
+    ensures told { Reads result (things_in MAX_THINGS line.now) }
+    ensures within { LeftWithin (length line.now) result }
 {
-    if most == 0 {
-        return Err(ReadError::Wrong(Expected::Fewer, left.len()));
-    }
-    let kind = read_thing(left)?;
-    if kinds.push(kind).is_err() {
-        return Err(ReadError::Memory);
-    }
-    let text = unblanked(*left);
-    match text {
-        [] => Ok(()),
-        [b',', rest @ ..] => {
-            *left = rest;
-            read_things(left, most - 1, kinds)
+    let mut kinds = Vec::new(heap);
+    let mut left = line;
+    for _ in 0..MAX_THINGS {
+        let (kind, rest) = split_thing(left)?;
+        kinds.push(kind.into())?;
+        match unblanked(rest) {
+            [] => return Ok(kinds),
+            [b',', rest @ ..] => left = rest,
+            rest => return Err(ReadError::Wrong(Expected::Comma, rest.len())),
         }
-        _ => Err(ReadError::Wrong(Expected::Comma, text.len())),
     }
+    Err(ReadError::Wrong(Expected::Fewer, left.len()))
 }
 
-// The kinds that a line tells are added; a line may tell nothing.
-pub(crate) fn read_told(line: &[u8], kinds: &mut Vec<u8>) -> Result<(), ReadError>
-    ensures told { Reads kinds.old.items kinds.new.items result (told_in line.now) }
+// The kinds that a line tells; it may tell nothing.
+pub(crate) fn read_told(heap: Global, line: &[u8]) -> Result<Vec<u8>, ReadError>
+    ensures told { Reads result (told_in line.now) }
     ensures within { LeftWithin (length line.now) result }
 {
     if unblanked(line).is_empty() {
-        return Ok(());
+        return Ok(Vec::new(heap));
     }
-    let mut left = line;
-    read_things(&mut left, MAX_THINGS, kinds)
+    read_things(heap, line)
 }

@@ -1,79 +1,67 @@
-// Text by its bytes: how long a front of one class, or of spaces and comments, is.
-ghost use Rattle.std.specs.Prelude.{◌≡◌, ◌≤◌, false, length};
-ghost use Rattle.msgfile.specs.Text.{space, belongs, span, skip, skipped, same};
+// Text by its bytes: its longest front of one sort, and what is left behind it.
+ghost use Rattle.std.specs.Prelude.{◌≡◌, ℕ, Bool};
+ghost use Rattle.msgfile.specs.Text.{blank, space, wordy, lined, unblanked, uncommented, SplitBy};
 
-use crate::class::Class;
+fn is_blank(byte: u8) -> bool
+    ensures { result ≡ blank byte }
+{
+    matches!(byte, b' ' | b'\t' | b'\r')
+}
 
-fn is_space(byte: u8) -> bool
+// A blank or the end of a line.
+pub(crate) fn is_space(byte: u8) -> bool
     ensures { result ≡ space byte }
 {
-    matches!(byte, b' ' | b'\t' | b'\r' | b'\n')
+    is_blank(byte) || byte == b'\n'
 }
 
-fn belongs(class: Class, byte: u8) -> bool
-    ensures { result ≡ belongs class byte }
+// Neither a space, a comma nor the beginning of a comment.
+fn is_wordy(byte: u8) -> bool
+    ensures { result ≡ wordy byte }
 {
-    match class {
-        Class::Blank => matches!(byte, b' ' | b'\t' | b'\r'),
-        Class::Word => !is_space(byte) && byte != b',' && byte != b'#',
-        Class::Line => byte != b'\n' && byte != b'#',
-    }
+    !(is_space(byte) || byte == b',' || byte == b'#')
 }
 
-// How many bytes at the front are of a class.
-pub(crate) fn span(class: Class, text: &[u8]) -> usize
-    ensures value { result ≡ span (belongs class) text.now }
-    ensures within { result ≤ length text.now }
+// The longest front whose bytes pass a test, and what is left behind it.
+fn split_front<P: Fn(u8) -> bool>(text: &[u8], passes: P) -> (&[u8], &[u8])
+    requires { P.IsAlwaysCallable passes }
+    ensures { (p : ℕ → Bool) → ((b : ℕ) (r : Bool) → P.post passes b r → r ≡ p b) → SplitBy p text.now result.0.now result.1.now }
 {
-    for (at, byte) in text.iter().enumerate() {
-        if !belongs(class, *byte) {
-            return at;
+    let end = text.iter().take_while(|byte| passes(**byte)).count();
+    text.split_at(end)
+}
+
+// What stands behind the blanks at the front.
+pub(crate) fn unblanked(text: &[u8]) -> &[u8]
+    ensures { result.now ≡ unblanked text.now }
+{
+    split_front(text, is_blank).1
+}
+
+// The word at the front, and what is left behind it.
+pub(crate) fn split_word(text: &[u8]) -> (&[u8], &[u8])
+    ensures { SplitBy wordy text.now result.0.now result.1.now }
+{
+    split_front(text, is_wordy)
+}
+
+// The line at the front, as far as a comment, and what is left behind it.
+pub(crate) fn split_line(text: &[u8]) -> (&[u8], &[u8])
+    ensures { SplitBy lined text.now result.0.now result.1.now }
+{
+    split_front(text, |byte| !(byte == b'\n' || byte == b'#'))
+}
+
+// What stands behind the spaces and comments at the front.
+pub(crate) fn skip_comments(text: &[u8]) -> &[u8]
+    ensures { result.now ≡ uncommented text.now }
+{
+    let mut left = text;
+    loop {
+        left = split_front(left, is_space).1;
+        if !left.starts_with(b"#") {
+            return left;
         }
+        left = split_front(left, |byte| byte != b'\n').1;
     }
-    text.len()
-}
-
-// Whether a comment goes on behind a byte, which stands in one or not; none, if the byte is neither a space nor in a comment.
-fn skip(comment: bool, byte: u8) -> Option<bool>
-    ensures { result ≡ skip comment byte }
-{
-    if comment {
-        Some(byte != b'\n')
-    } else if is_space(byte) {
-        Some(false)
-    } else if byte == b'#' {
-        Some(true)
-    } else {
-        None
-    }
-}
-
-// How many bytes at the front are spaces or comments.
-pub(crate) fn skipped(text: &[u8]) -> usize
-    ensures value { result ≡ skipped false text.now }
-    ensures within { result ≤ length text.now }
-{
-    let mut comment = false;
-    for (at, byte) in text.iter().enumerate() {
-        let Some(goes_on) = skip(comment, *byte) else {
-            return at;
-        };
-        comment = goes_on;
-    }
-    text.len()
-}
-
-// Whether two words are the same.
-pub(crate) fn same(a: &[u8], b: &[u8]) -> bool
-    ensures { result ≡ same a.now b.now }
-{
-    if a.len() != b.len() {
-        return false;
-    }
-    for at in 0..a.len() {
-        if a[at] != b[at] {
-            return false;
-        }
-    }
-    true
 }

@@ -1,14 +1,16 @@
 // msgsay says a message: it reads the message from a file, is told things, and prints the sentence.
 #![tactic(auto)]
 
-mod saying;
+mod fault;
+mod speaker;
 
-use crate::saying::say_source;
-use console::{ended, is_input, load_message, words_of};
+use crate::speaker::Speaker;
+use console::{Console, Misuse, is_help, is_input, is_option};
+use msgfile::Source;
+use plural::Locale;
 use std::io;
 use std::process::ExitCode;
-
-const PROGRAM: &str = "msgsay";
+use verifier::Message;
 
 const HELP: &str = "msgsay says a message.
 
@@ -29,42 +31,64 @@ options:
   -h, --help   print this
 ";
 
-// Says the message of a file; lines are read from standard input where the message isn't.
-fn run(rt: &HostRuntime, path: &str, words: &[String]) -> io::Result<bool> {
-    match load_message(rt, PROGRAM, path)? {
-        Some(source) => say_source(rt, &source, words, !is_input(path)),
-        None => Ok(false),
+// Says what was read from the file, if it is good; `lines` are still to be read from standard input.
+#[tactic(auto, unfolding(plural::specs::Rules::wrong_rule))]
+fn say_source(
+    console: &Console,
+    source: &Source,
+    words: &[String],
+    lines: bool,
+) -> io::Result<bool> {
+    let kinds = source.kinds.as_slice();
+    let message = match Message::try_new(source.code.as_slice(), kinds) {
+        Ok(message) => message,
+        Err(refusal) => {
+            console.tell_bad(source, refusal)?;
+            return Ok(false);
+        }
+    };
+    let rules = [0; 0];
+    let locale = Locale::new(&rules);
+    let speaker = Speaker {
+        console,
+        message: &message,
+        locale: &locale,
+    };
+    if words.is_empty() && !kinds.is_empty() && lines {
+        let text = console.read_input()?;
+        speaker.say_lines(text.as_slice())
+    } else {
+        speaker.say_words(words)
     }
 }
 
-fn is_help(word: &str) -> bool {
-    word == "-h" || word == "--help"
-}
-
-// `-` alone names standard input.
-fn is_option(word: &str) -> bool {
-    word.starts_with('-') && !is_input(word)
-}
-
 // Does what the words ask for; whether all was said.
-fn obey(rt: &HostRuntime) -> io::Result<bool> {
-    let words = words_of(rt)?;
+fn obey(console: &Console) -> io::Result<bool> {
+    let words = console.words()?;
     let [path, things @ ..] = words.as_slice() else {
-        eprintln!(rt; "msgsay: no file is named; see msgsay --help")?;
+        console.tell_misuse(Misuse::NoFile)?;
         return Ok(false);
     };
     let path = path.as_str();
     if is_help(path) {
-        rt.print(HELP)?;
+        console.rt.print(HELP)?;
         return Ok(true);
     }
     if is_option(path) {
-        eprintln!(rt; "msgsay: {path} is no option; see msgsay --help")?;
+        console.tell_misuse(Misuse::NoOption(path))?;
         return Ok(false);
     }
-    run(rt, path, things)
+    match console.load_message(path)? {
+        // Lines are read from standard input where the message isn't.
+        Some(source) => say_source(console, &source, things, !is_input(path)),
+        None => Ok(false),
+    }
 }
 
 fn main(rt: HostRuntime) -> ExitCode {
-    ended(&rt, PROGRAM, obey(&rt))
+    let console = Console {
+        rt: &rt,
+        program: "msgsay",
+    };
+    console.ended(obey(&console))
 }

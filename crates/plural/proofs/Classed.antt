@@ -1,82 +1,35 @@
 -- The class of a number: one rule more, and what a class says in words. Assumes nothing.
-use Rattle.std.proofs.Common.{◌≡◌, ℕ, zero, suc, ◌+◌, ◌*◌, ◌%◌, ◌<◌, ◌≤◌, Bool, true, false, cond, ◌&&◌, leb, List, [], ◌∷◌, length, get_or, take, drop, is_some, sym, refl, ap, ◌∙◌, subst, inl, inr, arith, length-drop}
-use Rattle.std.proofs.lemmas.Bool.{true≢false, le-leb, leb-true, and_parts, and_from, and_left, cases_order, cond-true, cond-false, cond_both}
-use Rattle.std.proofs.lemmas.List.{get_or-take, get_or-drop}
+use Rattle.std.proofs.Common.{◌≡◌, ℕ, zero, suc, ◌+◌, ◌*◌, ◌/◌, ◌%◌, ◌<◌, ◌≤◌, Bool, true, false, cond, leb, List, [], ◌∷◌, length, get_or, drop, map, Some, Option, sym, refl, ap, ◌∙◌, subst, inl, inr, arith, length-drop}
+use Rattle.std.proofs.lemmas.Bool.{true≢false, le-leb, leb-true, and_parts, and_from, cases_order, cond_both}
+use Rattle.std.specs.List.{find}
+use Rattle.std.specs.Option.{MatchOption}
+use Rattle.std.specs.Simd.{first_chunks}
 use Rattle.plural.specs.Class.{rule_of, RuleFits, ClassIs}
-use Rattle.plural.specs.Rules.{Rule, rules_in, fits, class_by, class_in, wrong_rule}
-use Rattle.plural.proofs.Ruled.{passed_well}
+use Rattle.plural.specs.Rules.{Rule, rules_in, fits, class_by, class_in}
+use Rattle.plural.proofs.Ruled.{at_later, at_later_0}
 
--- a rule fits by the tests in the order in which they are made
-and_swap : (a b x : Bool) → (a && (b && x)) ≡ (x && (a && b))
-and_swap false b false = refl
-and_swap false b true = refl
-and_swap true false false = refl
-and_swap true false true = refl
-and_swap true true false = refl
-and_swap true true true = refl
+-- the rules, as they are found in chunks of six numbers, and the class of the first that fits
+pub rules_chunks : (rs : List ℕ) → rules_in rs ≡ map rule_of (first_chunks 6 (length rs / 6) rs)
+unfolding rules_in
+rules_chunks [] = refl
+rules_chunks (a ∷ []) = refl
+rules_chunks (a ∷ b ∷ []) = refl
+rules_chunks (a ∷ b ∷ c ∷ []) = refl
+rules_chunks (a ∷ b ∷ c ∷ d ∷ []) = refl
+rules_chunks (a ∷ b ∷ c ∷ d ∷ e ∷ []) = refl
+rules_chunks (a ∷ b ∷ c ∷ d ∷ e ∷ f ∷ rs) =
+    let one : length (a ∷ b ∷ c ∷ d ∷ e ∷ f ∷ rs) / 6 ≡ suc (length rs / 6) = omega arith in
+    ap (λ (qs : List Rule). record { modulus = a; left_from = b; left_to = c; from = d; to = e; class = f } ∷ qs) (rules_chunks rs)
+    ∙ sym (ap (λ (k : ℕ). map rule_of (first_chunks 6 k (a ∷ b ∷ c ∷ d ∷ e ∷ f ∷ rs))) one)
 
-fits_by : (r : Rule) (n : ℕ) → fits r n ≡ ((leb r.from n && leb n r.to) && (leb r.left_from (n % r.modulus) && leb (n % r.modulus) r.left_to))
-unfolding fits
-fits_by r n = and_swap (leb r.left_from (n % r.modulus)) (leb (n % r.modulus) r.left_to) (leb r.from n && leb n r.to)
-
-pub out_of_range : (r : Rule) (n : ℕ) → false ≡ (leb r.from n && leb n r.to) → false ≡ fits r n
-out_of_range r n h = sym (fits_by r n ∙ and_left (leb r.from n && leb n r.to) _ (sym h))
-
-pub in_range : (r : Rule) (n m : ℕ) → true ≡ (leb r.from n && leb n r.to) → m ≡ n % r.modulus → (leb r.left_from m && leb m r.left_to) ≡ fits r n
-in_range r n m h e =
-    ap (λ (k : ℕ). leb r.left_from k && leb k r.left_to) e
-    ∙ sym (fits_by r n ∙ ap (λ (x : Bool). x && (leb r.left_from (n % r.modulus) && leb (n % r.modulus) r.left_to)) (sym h))
-
--- a number of a rule of what is left, and the same one of the whole
-at_later : (rs : List ℕ) (j k : ℕ) → get_or (drop 6 rs) (6 * j + k) 0 ≡ get_or rs (6 * suc j + k) 0
-at_later rs j k = let q : 6 + (6 * j + k) ≡ 6 * suc j + k = omega arith in get_or-drop 6 rs (6 * j + k) 0 ∙ ap (λ (i : ℕ). get_or rs i 0) q
-
-at_later_0 : (rs : List ℕ) (j : ℕ) → get_or (drop 6 rs) (6 * j) 0 ≡ get_or rs (6 * suc j) 0
-at_later_0 rs j = let q : 6 + 6 * j ≡ 6 * suc j = omega arith in get_or-drop 6 rs (6 * j) 0 ∙ ap (λ (i : ℕ). get_or rs i 0) q
-
--- every rule has a modulus of at least 1
-abbrev pub Moduli : List ℕ → Type 0
-Moduli rs = (i : ℕ) → 6 * i + 6 ≤ length rs → 1 ≤ get_or rs (6 * i) 0
-
-pub moduli_passed : (rs : List ℕ) → is_some (wrong_rule 20 rs) ≡ false → Moduli rs
-moduli_passed rs h i l = (passed_well rs h i (omega arith)).modulus
-
-pub moduli_first : (rs rule : List ℕ) → 6 ≤ length rs → rule ≡ take 6 rs → Moduli rs → 0 < get_or rule 0 0
-moduli_first rs rule l e m = omega (arith, ap (λ (r : List ℕ). get_or r 0 0) e ∙ get_or-take 6 rs 0 0 (omega arith), m 0 (omega arith))
-
-pub moduli_later : (rs rest : List ℕ) → 6 ≤ length rs → rest ≡ drop 6 rs → Moduli rs → Moduli rest
-moduli_later rs rest l e m = subst Moduli (sym e) (λ i h. omega (arith, m (suc i) (omega (arith, length-drop 6 rs)), at_later_0 rs i))
-
--- no rule more, one that fits, and one that doesn't
-pub class_off : (rs : List ℕ) (n : ℕ) → length rs < 6 → class_in rs n ≡ 5
-unfolding class_in rules_in class_by
-class_off [] n l = refl
-class_off (a ∷ []) n l = refl
-class_off (a ∷ b ∷ []) n l = refl
-class_off (a ∷ b ∷ c ∷ []) n l = refl
-class_off (a ∷ b ∷ c ∷ d ∷ []) n l = refl
-class_off (a ∷ b ∷ c ∷ d ∷ e ∷ []) n l = refl
-class_off (a ∷ b ∷ c ∷ d ∷ e ∷ f ∷ rs) n l = absurd (omega arith)
-
-class_on : (rs : List ℕ) (n : ℕ) → 6 ≤ length rs → class_in rs n ≡ cond (fits (rule_of (take 6 rs)) n) (get_or (take 6 rs) 5 0) (class_in (drop 6 rs) n)
-unfolding class_in rules_in class_by
-class_on [] n l = absurd (omega arith)
-class_on (a ∷ []) n l = absurd (omega arith)
-class_on (a ∷ b ∷ []) n l = absurd (omega arith)
-class_on (a ∷ b ∷ c ∷ []) n l = absurd (omega arith)
-class_on (a ∷ b ∷ c ∷ d ∷ []) n l = absurd (omega arith)
-class_on (a ∷ b ∷ c ∷ d ∷ e ∷ []) n l = absurd (omega arith)
-class_on (a ∷ b ∷ c ∷ d ∷ e ∷ f ∷ rs) n l = refl
-
-pub class_here : (rs rule : List ℕ) (n : ℕ) → 6 ≤ length rs → rule ≡ take 6 rs → true ≡ fits (rule_of rule) n → get_or rule 5 0 ≡ class_in rs n
-class_here rs rule n l e h =
-    ap (λ (r : List ℕ). get_or r 5 0) e
-    ∙ sym (class_on rs n l ∙ cond-true (fits (rule_of (take 6 rs)) n) _ _ (sym (h ∙ ap (λ (r : List ℕ). fits (rule_of r) n) e)))
-
-pub class_later : (rs rule rest : List ℕ) (n : ℕ) → 6 ≤ length rs → rule ≡ take 6 rs → rest ≡ drop 6 rs → false ≡ fits (rule_of rule) n → class_in rest n ≡ class_in rs n
-class_later rs rule rest n l e d h =
-    ap (λ (r : List ℕ). class_in r n) d
-    ∙ sym (class_on rs n l ∙ cond-false (fits (rule_of (take 6 rs)) n) _ _ (sym (h ∙ ap (λ (r : List ℕ). fits (rule_of r) n) e)))
+pub class_found : (n k : ℕ) (rs : List Rule) (o : Option Rule) → o ≡ find (λ (r : Rule). fits r n) rs → MatchOption o (k ≡ 5) (λ r. k ≡ r.class) → k ≡ class_by rs n
+unfolding class_by
+class_found n k [] o q h = subst (λ (o : Option Rule). MatchOption o (k ≡ 5) (λ r. k ≡ r.class)) q h
+class_found n k (r ∷ rs) o q h = go (λ e. class_found n k rs o e h) (fits r n) q
+  where
+    go : (o ≡ find (λ (r : Rule). fits r n) rs → k ≡ class_by rs n) → (t : Bool) → o ≡ cond t (Some r) (find (λ (r : Rule). fits r n) rs) → k ≡ cond t r.class (class_by rs n)
+    go ih true q = subst (λ (o : Option Rule). MatchOption o (k ≡ 5) (λ r. k ≡ r.class)) q h
+    go ih false q = ih q
 
 -- a rule that fits, in words and by its tests
 fits_words : (rs : List ℕ) (n : ℕ) → 6 ≤ length rs → fits (rule_of rs) n ≡ true → RuleFits rs 0 n
@@ -126,18 +79,18 @@ words_on rs n l q later =
     (λ h. inl (0, fits_words rs n l h, (λ j m w. absurd (omega arith)), refl))
     (λ h. words_later rs n (class_in (drop 6 rs) n) l h later))
 
-words_off : (rs : List ℕ) (n : ℕ) → length rs < 6 → ClassIs rs n (class_in rs n)
-words_off rs n l = inr ((λ i w. absurd (omega (arith, w.whole))), class_off rs n l)
+words_off : (rs : List ℕ) (n : ℕ) → length rs < 6 → class_in rs n ≡ 5 → ClassIs rs n (class_in rs n)
+words_off rs n l q = inr ((λ i w. absurd (omega (arith, w.whole))), q)
 
 pub class_words : (rs : List ℕ) (n : ℕ) → ClassIs rs n (class_in rs n)
-class_words [] n = words_off [] n (omega arith)
-class_words (a ∷ []) n = words_off (a ∷ []) n (omega arith)
-class_words (a ∷ b ∷ []) n = words_off (a ∷ b ∷ []) n (omega arith)
-class_words (a ∷ b ∷ c ∷ []) n = words_off (a ∷ b ∷ c ∷ []) n (omega arith)
-class_words (a ∷ b ∷ c ∷ d ∷ []) n = words_off (a ∷ b ∷ c ∷ d ∷ []) n (omega arith)
-class_words (a ∷ b ∷ c ∷ d ∷ e ∷ []) n = words_off (a ∷ b ∷ c ∷ d ∷ e ∷ []) n (omega arith)
-class_words (a ∷ b ∷ c ∷ d ∷ e ∷ f ∷ rs) n =
-    words_on (a ∷ b ∷ c ∷ d ∷ e ∷ f ∷ rs) n (omega arith) (class_on (a ∷ b ∷ c ∷ d ∷ e ∷ f ∷ rs) n (omega arith)) (class_words rs n)
+unfolding class_in rules_in class_by
+class_words [] n = words_off [] n (omega arith) refl
+class_words (a ∷ []) n = words_off (a ∷ []) n (omega arith) refl
+class_words (a ∷ b ∷ []) n = words_off (a ∷ b ∷ []) n (omega arith) refl
+class_words (a ∷ b ∷ c ∷ []) n = words_off (a ∷ b ∷ c ∷ []) n (omega arith) refl
+class_words (a ∷ b ∷ c ∷ d ∷ []) n = words_off (a ∷ b ∷ c ∷ d ∷ []) n (omega arith) refl
+class_words (a ∷ b ∷ c ∷ d ∷ e ∷ []) n = words_off (a ∷ b ∷ c ∷ d ∷ e ∷ []) n (omega arith) refl
+class_words (a ∷ b ∷ c ∷ d ∷ e ∷ f ∷ rs) n = words_on (a ∷ b ∷ c ∷ d ∷ e ∷ f ∷ rs) n (omega arith) refl (class_words rs n)
 
 pub words_at : (rs : List ℕ) (n k : ℕ) → k ≡ class_in rs n → ClassIs rs n k
 words_at rs n k q = subst (ClassIs rs n) (sym q) (class_words rs n)

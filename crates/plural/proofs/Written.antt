@@ -1,9 +1,10 @@
 -- Figures: one more step, how many there are, and that they are those of their number. Assumes nothing.
-use Rattle.std.proofs.Common.{◌≡◌, ℕ, zero, suc, ◌+◌, ◌-◌, ◌*◌, ◌/◌, ◌%◌, ◌^◌, ◌<◌, ◌≤◌, Bool, true, false, cond, ◌&&◌, ltb, leb, List, [], ◌∷◌, ◌++◌, length, get_or, Some, None, decimal, Option, sym, refl, ap, ◌∙◌, subst, inl, inr, arith, length-append, rules}
-use Rattle.std.specs.Int.{is_in_range}
-use Rattle.std.specs.Str.{all_ascii_digits}
-use Rattle.std.proofs.lemmas.Bool.{lt-ltb, le-ltb, cases_lt, and_parts, and_from, leb-true, le-leb, lt-leb, cond_both}
-use Rattle.std.proofs.lemmas.Str.Parse.{IsNumeralModel, numerals_by_fold}
+use Rattle.std.proofs.Common.{◌≡◌, ℕ, zero, suc, ◌+◌, ◌-◌, ◌*◌, ◌/◌, ◌%◌, ◌^◌, ◌<◌, ◌≤◌, cond, ltb, List, [], ◌∷◌, ◌++◌, length, get_or, Some, None, decimal, Option, sym, refl, ap, ◌∙◌, subst, inl, inr, arith, length-append, rules}
+use Rattle.std.proofs.Math.Nat.{pow-succ'}
+use Rattle.std.specs.Int.{IsInRange}
+use Rattle.std.specs.Option.{MatchOption, IfSome, IfNone}
+use Rattle.std.proofs.lemmas.Bool.{lt-ltb, le-ltb, cases_lt, le-leb, cond_both}
+use Rattle.std.proofs.lemmas.Str.Parse.{IsNumeralModel, numerals_by_fold, tells_by_index}
 use Rattle.std.proofs.lemmas.Fmt.{AppendsLastDigit, decimal_from_appends, decimal_digit, decimal_step, decimal_nonempty, length-decimal-le, first_decimal, digits_decimal, digits_value-decimal, decimal-digits_value}
 use Rattle.plural.specs.Figures.{figures_by, figures, read_on, Figured, figures_on, number_in}
 
@@ -30,22 +31,25 @@ figures_few n l = let e = ap length (figures_is n l) in (omega (arith, e, decima
 pub length_step : (n : ℕ) → 10 ≤ n → n < 2 ^ 64 → length (figures n) ≡ length (figures (n / 10)) + 1
 length_step n l h = ap length (figures_step n l h) ∙ length-append (figures (n / 10)) ((48 + n % 10) ∷ [])
 
-own : IsNumeralModel (λ ds. all_ascii_digits ds ≡ true) (read_on 0)
-own = numerals_by_fold _ (search rules) read_on (search rules)
+-- a number from this power of ten on, and below the next, has a figure more than the power
+pub length_power : (k n : ℕ) → n < 2 ^ 64 → 10 ^ k ≤ n → n < 10 * 10 ^ k → length (figures n) ≡ k + 1
+length_power zero n l a b = ap length (figures_digit n (omega arith))
+length_power (suc k) n l a b =
+    let p = pow-succ' 10 k in
+    let one : 1 ≤ 10 ^ k = pow_some k in
+    omega (arith, length_step n (omega arith) l, length_power k (n / 10) (omega arith) (omega arith) (omega arith))
+  where
+    pow_some : (k : ℕ) → 1 ≤ 10 ^ k
+    pow_some zero = omega arith
+    pow_some (suc k) = omega (arith, pow-succ' 10 k, pow_some k)
 
-digit_in : (c : ℕ) → is_in_range 48 57 c ≡ true → (48 ≤ c) × (c ≤ 57)
-digit_in c h = let p = and_parts (leb 48 c) (leb c 57) h in (leb-true 48 c p.0, leb-true c 57 p.1)
+-- how many figures there are, by the greatest power of ten that is not above the number, if one is
+pub figures_len_by : (n k : ℕ) (o : Option ℕ) → n < 2 ^ 64 → IfNone o (n ≡ 0) → IfSome o (λ p. 10 ^ p ≤ n) → IfSome o (λ p. n < 10 * 10 ^ p) → MatchOption o (k ≡ 1) (λ p. k ≡ p + 1) → k ≡ length (figures n)
+figures_len_by n k None l z a b q = omega (arith, ap length (figures_digit n (omega arith)))
+figures_len_by n k (Some p) l z a b q = q ∙ sym (length_power p n l a b)
 
-digits_each : (ds : List ℕ) → all_ascii_digits ds ≡ true → (k : ℕ) → k < length ds → (48 ≤ get_or ds k 0) × (get_or ds k 0 ≤ 57)
-digits_each [] h k l = absurd (omega arith)
-digits_each (c ∷ cs) h zero l = digit_in c (and_parts (is_in_range 48 57 c) (all_ascii_digits cs) h).0
-digits_each (c ∷ cs) h (suc k) l = digits_each cs (and_parts (is_in_range 48 57 c) (all_ascii_digits cs) h).1 k (omega arith)
-
-digits_all : (ds : List ℕ) → ((k : ℕ) → k < length ds → (48 ≤ get_or ds k 0) × (get_or ds k 0 ≤ 57)) → all_ascii_digits ds ≡ true
-digits_all [] h = refl
-digits_all (c ∷ cs) h =
-    let d = h 0 (omega arith) in
-    and_from (is_in_range 48 57 c) (all_ascii_digits cs) (and_from (leb 48 c) (leb c 57) (le-leb 48 c d.0) (le-leb c 57 d.1)) (digits_all cs (λ k l. h (suc k) (omega arith)))
+own : IsNumeralModel (λ ds. (k : ℕ) → k < length ds → IsInRange 48 57 (get_or ds k 0)) (read_on 0)
+own = numerals_by_fold _ tells_by_index read_on (search rules)
 
 front_of : (n : ℕ) → n < 2 ^ 64 → 1 < length (decimal n) → 48 < get_or (decimal n) 0 0
 front_of zero l h = absurd (omega (arith, ap length (decimal_digit 0 (omega arith))))
@@ -54,13 +58,13 @@ front_of (suc n) l h = first_decimal (suc n) (omega arith) l
 pub figures_figured : (n : ℕ) → n < 2 ^ 64 → Figured n (figures n)
 figures_figured n l =
     subst (Figured n) (sym (figures_is n l))
-    (record { some = decimal_nonempty n l; few = few_decimal n l; digits = digits_each (decimal n) (digits_decimal own n l); value = digits_value-decimal own n l; front = front_of n l })
+    (record { some = decimal_nonempty n l; few = few_decimal n l; digits = digits_decimal own n l; value = digits_value-decimal own n l; front = front_of n l })
 
 pub figures_only : (n : ℕ) (ds : List ℕ) → n < 2 ^ 64 → Figured n ds → ds ≡ figures n
 figures_only n ds l f =
     let v = f.value in
     let w : read_on 0 ds < 2 ^ 64 = omega arith in
-    sym (decimal-digits_value own ds (digits_all ds f.digits) f.some (λ q. single q) w) ∙ ap decimal v ∙ sym (figures_is n l)
+    sym (decimal-digits_value own ds f.digits f.some (λ q. single q) w) ∙ ap decimal v ∙ sym (figures_is n l)
   where
     single : get_or ds 0 0 ≡ 48 → length ds ≡ 1
     single q = elim (cases_lt 1 (length ds)) [ inl m ↦ absurd (omega (arith, f.front m)) | inr m ↦ omega (arith, f.some) ]
@@ -82,39 +86,9 @@ pub on_figure : (n c : ℕ) (cs : List ℕ) → 48 ≤ c → c ≤ 57 → 10 * n
 unfolding figures_on
 on_figure n c cs a b l = rw (le-leb 48 c a, le-leb c 57 b, lt-ltb (10 * n + (c - 48)) 18446744073709551616 l) refl
 
-pub off_low : (n c : ℕ) (cs : List ℕ) → c < 48 → figures_on n (c ∷ cs) ≡ None
-unfolding figures_on
-off_low n c cs a = rw (lt-leb 48 c a) refl
-
-pub off_high : (n c : ℕ) (cs : List ℕ) → 57 < c → figures_on n (c ∷ cs) ≡ None
-unfolding figures_on
-off_high n c cs a = rw (lt-leb c 57 a, le-leb 48 c (omega arith)) refl
-
-pub off_large : (n c : ℕ) (cs : List ℕ) → 48 ≤ c → c ≤ 57 → 18446744073709551616 ≤ 10 * n + (c - 48) → figures_on n (c ∷ cs) ≡ None
-unfolding figures_on
-off_large n c cs a b l = rw (le-leb 48 c a, le-leb c 57 b, le-ltb (10 * n + (c - 48)) 18446744073709551616 l) refl
-
 pub on_none : (n : ℕ) → figures_on n [] ≡ Some n
 unfolding figures_on
 on_none n = refl
-
--- read together or apart: what the first figure gives, and then the rest
-abbrev pub Then : ℕ → ℕ → List ℕ → Option ℕ → Type 0
-Then n c cs None = figures_on n (c ∷ cs) ≡ None
-Then n c cs (Some m) = figures_on n (c ∷ cs) ≡ figures_on m cs
-
-pub on_then : (n c : ℕ) (cs : List ℕ) → Then n c cs (figures_on n (c ∷ []))
-unfolding figures_on
-on_then n c cs = go (leb 48 c && (leb c 57 && ltb (10 * n + (c - 48)) 18446744073709551616)) refl
-  where
-    go : (t : Bool) → (leb 48 c && (leb c 57 && ltb (10 * n + (c - 48)) 18446744073709551616)) ≡ t → Then n c cs (cond t (Some (10 * n + (c - 48))) None)
-    go true q = ap (λ (b : Bool). cond b (figures_on (10 * n + (c - 48)) cs) None) q
-    go false q = ap (λ (b : Bool). cond b (figures_on (10 * n + (c - 48)) cs) None) q
-
-pub read_none : (ds : List ℕ) → length ds ≡ 0 → None ≡ number_in ds
-unfolding number_in
-read_none [] l = refl
-read_none (c ∷ cs) l = absurd (omega arith)
 
 pub read_some : (ds : List ℕ) → 0 < length ds → number_in ds ≡ figures_on 0 ds
 unfolding number_in

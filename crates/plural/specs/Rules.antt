@@ -1,5 +1,5 @@
 -- A locale's rules of plural classes: six numbers each, the first that fits counts. Assumes nothing: these are definitions.
-use Rattle.std.specs.Prelude.{ℕ, zero, suc, ◌+◌, ◌*◌, ◌%◌, ◌<◌, ◌≤◌, Bool, cond, ◌&&◌, List, [], ◌∷◌, length, Some, None, Option, nat_le, slice_index, slice_index_or}
+use Rattle.std.specs.Prelude.{ℕ, zero, suc, ◌+◌, ◌*◌, ◌%◌, ◌<◌, ◌≤◌, Bool, cond, ◌&&◌, List, [], ◌∷◌, length, Some, None, Option, nat_eq, nat_le, slice_index, slice_index_or}
 use Rattle.code.specs.declared.refusal.Refusal as refusal
 
 -- a modulus; from and to for what is left of the number; from and to for the number itself; and a class
@@ -38,6 +38,10 @@ class_in rs n = class_by (rules_in rs) n
 abbrev pub later : Option ℕ → Option ℕ
 later None = None
 later (Some k) = Some (suc k)
+
+-- the numbers of a rule are six, with a modulus of at least 1 and a class of at most 5
+abbrev pub is_well : List ℕ → Bool
+is_well rs = nat_eq (length rs) 6 && (nat_le 1 (slice_index_or rs 0 0) && nat_le (slice_index_or rs 5 0) 5)
 
 -- the first rule that is wrong, of at most so many: it is one too many, not whole, or has a modulus of 0 or a class above 5
 unfoldable pub wrong_rule : ℕ → List ℕ → Option ℕ

@@ -1,48 +1,67 @@
 // Numbers in figures, without noughts in front.
-ghost use Rattle.std.specs.Prelude.{◌≡◌, ◌+◌, [], ◌∷◌, length, drop};
+ghost use Rattle.std.specs.Prelude.{◌≡◌, [], ◌∷◌, length};
 ghost use Rattle.plural.specs.Figures.{figures, figures_on, number_in};
 
-// The most figures of a number below 2^64.
-pub const FIGURES: usize = 20;
+use std::marker::Model;
+
+// A number's figures, at the end of a buffer.
+#[derive(Debug, Drop)]
+pub struct Figures {
+    digits: [u8; 20],
+    start: usize,
+}
+
+impl Model for Figures {
+    ghost use Rattle.std.specs.Prelude.{ℕ, List, ◌≤◌, drop};
+
+    ghost Value = { List ℕ };
+
+    ghost view = { λ f. drop f.start f.digits };
+
+    ghost invariant = { λ f. f.start ≤ 20 };
+}
+
+impl Figures {
+    // The most figures of a number below 2^64.
+    pub const MOST: usize = 20;
+
+    pub fn new(n: u64) -> Figures
+        ensures { result ≡ figures n }
+    {
+        let start = Self::MOST - figures_len(n);
+        let mut digits = [b'0'; Self::MOST];
+        let mut rest = n;
+        // By place, since what is written through `iter_mut().rev()` is not known to a proof.
+        for at in (start..Self::MOST).rev() {
+            digits[at] = b'0' + (rest % 10) as u8;
+            rest /= 10;
+        }
+        Figures { digits, start }
+    }
+
+    pub fn as_slice(&self) -> &[u8]
+        ensures { result.now ≡ self.now }
+    {
+        &self.digits[self.start..]
+    }
+}
 
 // How many figures a number has.
 pub fn figures_len(n: u64) -> usize
     ensures { result ≡ length (figures n) }
 {
-    let mut rest = n;
-    let mut len = 1;
-    while rest >= 10 {
-        rest /= 10;
-        len += 1;
-    }
-    len
-}
-
-// Writes a number's figures at the end of `to`, and says where they begin.
-pub fn write_figures(n: u64, to: &mut [u8; 20]) -> usize
-    ensures figures { drop result to.new ≡ figures n }
-    ensures len { result + length (figures n) ≡ 20 }
-{
-    let mut rest = n;
-    let mut at = FIGURES;
-    while rest >= 10 {
-        at -= 1;
-        to[at] = b'0' + (rest % 10) as u8;
-        rest /= 10;
-    }
-    at -= 1;
-    to[at] = b'0' + rest as u8;
-    at
+    n.checked_ilog10().map_or(1, |power| power as usize + 1)
 }
 
 // The number that figures write, if they are figures of a number below 2^64.
+#[tactic(auto, unfolding(crate::specs::Figures::number_in, crate::specs::Figures::figures_on))]
 pub fn read_figures(figures: &[u8]) -> Option<u64>
     ensures { result ≡ number_in figures.now }
 {
     if figures.is_empty() {
         return None;
     }
-    let mut n: u64 = 0;
+    let mut n = 0;
     for figure in figures {
         n = figure_on(n, *figure)?;
     }
@@ -50,15 +69,10 @@ pub fn read_figures(figures: &[u8]) -> Option<u64>
 }
 
 // One figure more.
+#[tactic(auto, unfolding(crate::specs::Figures::figures_on))]
 fn figure_on(n: u64, figure: u8) -> Option<u64>
     ensures { result ≡ figures_on n (figure ∷ []) }
 {
-    if figure < b'0' || figure > b'9' {
-        return None;
-    }
-    let digit = (figure - b'0') as u64;
-    if n > (u64::MAX - digit) / 10 {
-        return None;
-    }
-    Some(10 * n + digit)
+    let digit = char::from(figure).to_digit(10)?;
+    n.checked_mul(10)?.checked_add(digit.into())
 }

@@ -5,8 +5,9 @@ mod class;
 mod figures;
 mod locale;
 mod promises;
+mod rule;
 mod rules;
 
-pub use figures::{FIGURES, figures_len, read_figures, write_figures};
+pub use figures::{Figures, figures_len, read_figures};
 pub use locale::Locale;
-pub use promises::{class_exactly, classes_below_six, figures_exactly, figures_read_back};
+pub use promises::promise;

@@ -2,7 +2,7 @@
 ghost use Rattle.std.specs.Prelude.{◌≡◌, false, is_some};
 ghost use Rattle.plural.specs.Rules.{wrong_rule};
 
-#[derive(Clone, Copy)]
+#[derive(Clone, Copy, Debug, PartialEq, Eq)]
 pub struct Locale<'a> {
     pub(crate) rules: &'a [u64],
     ghost well: { is_some (wrong_rule 20 rules.now) ≡ false },

@@ -1,26 +1,10 @@
 // The test of a locale's rules.
 ghost use Rattle.std.specs.Prelude.{◌≡◌, ℕ, ◌<◌, Some, None, MatchResult, OnOk};
-ghost use Rattle.plural.specs.Rules.{wrong_rule, rules_fault, class_in, RulesWell, RuleRefused};
+ghost use Rattle.plural.specs.Rules.{is_well, rules_fault, class_in, RulesWell, RuleRefused};
 ghost use Rattle.plural.specs.View.{rules_of};
 
 use crate::locale::Locale;
 use code::Refusal;
-
-// The first rule that is wrong, of at most so many.
-fn wrong_rule(left: &[u64], most: usize) -> Option<usize>
-    ensures { result ≡ wrong_rule most left.now }
-{
-    let [modulus, _, _, _, _, class, rest @ ..] = left else {
-        return if left.is_empty() { None } else { Some(0) };
-    };
-    if most == 0 || *modulus == 0 || *class > 5 {
-        return Some(0);
-    }
-    match wrong_rule(rest, most - 1) {
-        Some(at) => Some(at + 1),
-        None => None,
-    }
-}
 
 impl<'a> Locale<'a> {
     // The most rules that a locale has.
@@ -32,10 +16,12 @@ impl<'a> Locale<'a> {
         ensures exactly { MatchResult result (λ _. RulesWell rules.now) (λ f. RuleRefused rules.now f) }
         ensures six { OnOk result ((n : ℕ) → class_in rules.now n < 6) }
     {
-        match wrong_rule(rules, Self::MAX_RULES) {
-            Some(at) => Err(Refusal::Rule(at)),
-            None => Ok(()),
+        for (at, rule) in rules.chunks(6).enumerate() {
+            if at == Self::MAX_RULES || !is_well(rule) {
+                return Err(Refusal::Rule(at));
+            }
         }
+        Ok(())
     }
 
     // Of rules in which `check` found no fault.
@@ -45,4 +31,21 @@ impl<'a> Locale<'a> {
     {
         Locale { rules }
     }
+
+    // Of rules in which `check` finds no fault.
+    pub fn try_new(rules: &'a [u64]) -> Result<Locale<'a>, Refusal>
+        ensures answer { MatchResult result (λ l. (rules_fault rules.now ≡ None) × (rules_of l ≡ rules.now)) (λ f. rules_fault rules.now ≡ Some f) }
+        ensures exactly { MatchResult result (λ _. RulesWell rules.now) (λ f. RuleRefused rules.now f) }
+        ensures six { OnOk result ((n : ℕ) → class_in rules.now n < 6) }
+    {
+        Self::check(rules)?;
+        Ok(Self::new(rules))
+    }
+}
+
+// Whether a rule is whole, with a modulus of at least 1 and a class of at most 5.
+fn is_well(rule: &[u64]) -> bool
+    ensures { result ≡ is_well rule.now }
+{
+    matches!(rule, [1..=u64::MAX, _, _, _, _, 0..=5])
 }

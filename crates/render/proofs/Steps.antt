@@ -1,105 +1,111 @@
--- Good code, step by step: what a step asks holds, what is left is good, and what is measured and said of it. Assumes nothing.
-use Rattle.std.proofs.Common.{◌≡◌, ℕ, zero, suc, ◌+◌, ◌-◌, ◌<◌, Bool, true, false, List, [], ◌++◌, length, get_or, take, drop, sym, refl, ap, ◌∙◌, subst, arith, length-append}
-use Rattle.std.proofs.lemmas.Bool.{true≢false, false≢true, ltb-true}
-use Rattle.std.proofs.lemmas.List.{take_rest}
-use Rattle.code.specs.Step.{Value, kinds, shown, Step, ends, letters, argument, unknown, cut, size, exits, needs, pick, output, decode}
+-- Good code, step by step: what a step asks holds, what is left behind it is good, and what a walk over it leaves. Assumes nothing.
+use Rattle.std.proofs.Common.{◌≡◌, ℕ, zero, suc, ◌+◌, ◌-◌, ◌<◌, Bool, true, false, ◌⊎◌, List, [], ◌∷◌, ◌++◌, length, get_or, drop, sym, refl, ap, ◌∙◌, subst, inl, inr, arith}
+use Rattle.std.proofs.lemmas.Bool.{false≢true}
+use Rattle.code.specs.Step.{kinds, Step, ends, letters, argument, unknown, cut, size, exits, needs, pick, output, decode}
 use Rattle.code.specs.Code.{State, going, done, stuck, good, run, says}
-use Rattle.code.proofs.Laws.{pick_fits, length_kinds}
-use Rattle.code.proofs.Goods.{good_here}
-use Rattle.code.proofs.Prefixed.{before, run_on, run_end, only_says, says_end, says_on, rest_good, asks}
+use Rattle.code.specs.View.{seen}
+use Rattle.code.specs.declared.step.Step as declared
+use Rattle.code.proofs.Laws.{pick_fits}
+use Rattle.code.proofs.Prefixed.{before, run_on, run_end, says_end, says_on, rest_good, asks}
 use Rattle.render.specs.declared.env.Env.{Env}
+use Rattle.render.specs.Sink.{SinkLaws, Walked}
 use Rattle.render.specs.View.{values_of, env_of}
-use Rattle.render.specs.Saying.{Measured}
 use Rattle.render.proofs.Envs.{env_six}
 
-measured_before : (o : List ℕ) (s : State) (t u : ℕ) (b : Bool) → Measured s (t + length o) u b → Measured (before o s) t u b
-measured_before o (going r out) t u b h = h
-measured_before o (done out) t u b h = (h.0, omega (arith, h.1, length-append o out))
-measured_before o stuck t u b h = h
+-- a step that asks for what is there ends, or goes on right behind it
+ends_none : (s : Step) → s ≡ ends → exits s ≡ []
+unfolding exits
+ends_none s q = ap exits q
 
--- what is left behind so many bytes, as a part of a slice
-behind : (r : List ℕ) (n : ℕ) → drop (n + 0) r ≡ take (length r - n) (drop n r)
-behind r n = let q : n + 0 ≡ n = omega arith in ap (λ (k : ℕ). drop k r) q ∙ sym (take_rest r n)
+is_end : (s : Step) → (s ≡ ends) ⊎ (s ≡ ends → ⊥)
+is_end ends = inl refl
+is_end (letters t) = inr (λ q. cc)
+is_end (argument i) = inr (λ q. cc)
+is_end (unknown x) = inr (λ q. cc)
+is_end cut = inr (λ q. cc)
 
-pub no_unknown : {A : Type 0} → (ks r : List ℕ) (x : ℕ) → unknown x ≡ decode r → good decode ks r ≡ true → A
-unfolding needs
-no_unknown ks r x q g = absurd (false≢true (ap (λ (s : Step). needs s ks) q ∙ (good_here decode ks r g).asks))
+-- a step that isn't the program's end isn't the definitions' either
+pub seen_other : (d : declared.Step) → (d ≡ declared.TheVariants.End → ⊥) → seen d ≡ ends → ⊥
+seen_other declared.TheVariants.End o q = o refl
+seen_other (declared.TheVariants.Letters t) o q = cc
+seen_other (declared.TheVariants.Argument i) o q = cc
+seen_other (declared.TheVariants.Unknown x) o q = cc
+seen_other declared.TheVariants.Cut o q = cc
 
-pub no_cut : {A : Type 0} → (ks r : List ℕ) → cut ≡ decode r → good decode ks r ≡ true → A
-unfolding needs
-no_cut ks r q g = absurd (false≢true (ap (λ (s : Step). needs s ks) q ∙ (good_here decode ks r g).asks))
+others_on : (s : Step) (ks : List ℕ) → needs s ks ≡ true → (s ≡ ends → ⊥) → exits s ≡ 0 ∷ []
+unfolding exits needs
+others_on ends ks n o = absurd (o refl)
+others_on (letters t) ks n o = refl
+others_on (argument i) ks n o = refl
+others_on (unknown x) ks n o = absurd (false≢true n)
+others_on cut ks n o = absurd (false≢true n)
 
-pub told_argument : (vs : List Value) (r : List ℕ) (i : ℕ) → argument i ≡ decode r → good decode (kinds vs) r ≡ true → i < length vs
-unfolding needs
-told_argument vs r i q g = omega (arith, ltb-true i (length (kinds vs)) (ap (λ (s : Step). needs s (kinds vs)) q ∙ (good_here decode (kinds vs) r g).asks), length_kinds vs)
+-- good code in an environment of its kinds
+module _ (v : Env) (r : List ℕ) (s : Step) (q : s ≡ decode r) (g : good decode (kinds (values_of v.args)) r ≡ true) where
+  pub step_asks : needs s (kinds (values_of v.args)) ≡ true
+  step_asks = asks decode (kinds (values_of v.args)) (env_of v) refl (env_six v) r s q g
 
--- in an environment of the code's kinds
-module _ (v : Env) where
-  pub good_letters : (r t : List ℕ) → letters t ≡ decode r → good decode (kinds (values_of v.args)) r ≡ true → good decode (kinds (values_of v.args)) (take (length r - (2 + length t)) (drop (2 + length t) r)) ≡ true
-  unfolding size exits
-  good_letters r t q g = ap (good decode (kinds (values_of v.args))) (sym (behind r (2 + length t))) ∙ rest_good decode (kinds (values_of v.args)) (env_of v) refl (env_six v) r (letters t) 0 q g (omega arith)
+  module _ (o : s ≡ ends → ⊥) where
+    on : exits s ≡ 0 ∷ []
+    on = others_on s (kinds (values_of v.args)) step_asks o
 
-  pub good_argument : (r : List ℕ) (i : ℕ) → argument i ≡ decode r → good decode (kinds (values_of v.args)) r ≡ true → good decode (kinds (values_of v.args)) (take (length r - 2) (drop 2 r)) ≡ true
-  unfolding size exits
-  good_argument r i q g = ap (good decode (kinds (values_of v.args))) (sym (behind r 2)) ∙ rest_good decode (kinds (values_of v.args)) (env_of v) refl (env_six v) r (argument i) 0 q g (omega arith)
+    some : 0 < length (exits s)
+    some = omega (arith, ap length on)
 
-  pub measured_none : (r : List ℕ) (n t : ℕ) → n ≡ 0 → Measured (run decode n (env_of v) (going r [])) t t false
+    exit : (k : ℕ) → k < length (exits s) → size s + get_or (exits s) k 0 ≡ size s
+    exit k l =
+        let z : k ≡ 0 = omega (arith, ap length on) in
+        let none : List ℕ = 0 ∷ [] in
+        let first : get_or none k 0 ≡ get_or none 0 0 = ap (λ (n : ℕ). get_or none n 0) z in
+        omega (arith, ap (λ (d : List ℕ). get_or d k 0) on, first)
+
+    picked : size s + get_or (exits s) (pick s (env_of v)) 0 ≡ size s
+    picked = exit (pick s (env_of v)) (pick_fits s (env_of v) (env_six v) step_asks some)
+
+    pub rest_is_good : good decode (kinds (values_of v.args)) (drop (size s) r) ≡ true
+    rest_is_good = ap (λ (n : ℕ). good decode (kinds (values_of v.args)) (drop n r)) (sym (exit 0 some)) ∙ rest_good decode (kinds (values_of v.args)) (env_of v) refl (env_six v) r s 0 q g some
+
+    pub says_rest : says decode (env_of v) r ≡ output s (env_of v) ++ says decode (env_of v) (drop (size s) r)
+    says_rest = says_on decode (kinds (values_of v.args)) (env_of v) refl (env_six v) r s q g some ∙ ap (λ (n : ℕ). output s (env_of v) ++ says decode (env_of v) (drop n r)) picked
+
+    pub run_rest : (n : ℕ) → run decode (suc n) (env_of v) (going r []) ≡ before (output s (env_of v)) (run decode n (env_of v) (going (drop (size s) r) []))
+    run_rest n =
+        run_on decode n (env_of v) r s q step_asks (pick_fits s (env_of v) (env_six v) step_asks some)
+        ∙ ap (λ (k : ℕ). before (output s (env_of v)) (run decode n (env_of v) (going (drop k r) []))) picked
+
+-- a walk, where it stops and where it goes on
+module _ {S : Type 0} (fits : S → List ℕ → Type 0) (puts : S → List ℕ → S → Type 0) (laws : SinkLaws fits puts) where
+  pub walked_none : (v : Env) (r : List ℕ) (n : ℕ) (a : S) → n ≡ 0 → Walked puts (run decode n (env_of v) (going r [])) a a false
   unfolding run
-  measured_none r zero t q = refl
-  measured_none r (suc n) t q = absurd (omega arith)
+  walked_none v r zero a z = (refl, laws.none a)
+  walked_none v r (suc n) a z = absurd (omega arith)
 
-  pub measured_end : (r : List ℕ) (n t : ℕ) → (n ≡ 0 → ⊥) → ends ≡ decode r → good decode (kinds (values_of v.args)) r ≡ true → Measured (run decode n (env_of v) (going r [])) t t true
-  unfolding exits output
-  measured_end r zero t l q g = absurd (l refl)
-  measured_end r (suc n) t l q g = subst (λ (s : State). Measured s t t true) (sym (run_end decode n (env_of v) r ends q (asks decode (kinds (values_of v.args)) (env_of v) refl (env_six v) r ends q g) refl)) (refl, omega arith)
+  walked_before : (o : List ℕ) (st : State) (a b c : S) (w : Bool) → puts a o b → Walked puts st b c w → Walked puts (before o st) a c w
+  walked_before o (going r u) a b c w p h = (h.0, laws.more a b c o u p h.1)
+  walked_before o (done u) a b c w p h = (h.0, laws.more a b c o u p h.1)
+  walked_before o stuck a b c w p h = h
 
-  measured_on :
-      (r : List ℕ) (s : Step) (n t u : ℕ) (b : Bool) (rest : List ℕ) → (n ≡ 0 → ⊥) → s ≡ decode r → good decode (kinds (values_of v.args)) r ≡ true → 0 < length (exits s)
-      → drop (size s + get_or (exits s) (pick s (env_of v)) 0) r ≡ rest
-      → Measured (run decode (n - 1) (env_of v) (going rest [])) (t + length (output s (env_of v))) u b
-      → Measured (run decode n (env_of v) (going r [])) t u b
-  measured_on r s zero t u b rest l q g x z h = absurd (l refl)
-  measured_on r s (suc n) t u b rest l q g x z h =
-      let a = asks decode (kinds (values_of v.args)) (env_of v) refl (env_six v) r s q g in
-      let k : suc n - 1 ≡ n = omega arith in
-      subst (λ (st : State). Measured st t u b)
-      (sym (run_on decode n (env_of v) r s q a (pick_fits s (env_of v) (env_six v) a x) ∙ ap (λ (y : List ℕ). before (output s (env_of v)) (run decode n (env_of v) (going y []))) z))
-      (measured_before (output s (env_of v)) (run decode n (env_of v) (going rest [])) t u b (rw k at h))
+  module _ (v : Env) (r : List ℕ) (s : Step) (q : s ≡ decode r) (g : good decode (kinds (values_of v.args)) r ≡ true) where
+    fits_other : (a : S) → (s ≡ ends → ⊥) → fits a (says decode (env_of v) r) → fits a (output s (env_of v))
+    fits_other a o h = laws.front a (output s (env_of v)) (says decode (env_of v) (drop (size s) r)) (rw (says_rest v r s q g o) at h)
 
-  pub measured_letters :
-      (r t : List ℕ) (n m u : ℕ) (b : Bool) → (n ≡ 0 → ⊥) → letters t ≡ decode r → good decode (kinds (values_of v.args)) r ≡ true
-      → Measured (run decode (n - 1) (env_of v) (going (take (length r - (2 + length t)) (drop (2 + length t) r)) [])) (m + length t) u b → Measured (run decode n (env_of v) (going r [])) m u b
-  unfolding size exits pick output
-  measured_letters r t n m u b l q g h = measured_on r (letters t) n m u b (take (length r - (2 + length t)) (drop (2 + length t) r)) l q g (omega arith) (behind r (2 + length t)) h
+    fits_end : (a : S) → s ≡ ends → fits a (says decode (env_of v) r) → fits a (output s (env_of v))
+    fits_end a e h = rw (says_end decode (kinds (values_of v.args)) (env_of v) refl (env_six v) r s q g (ends_none s e)) at h
 
-  pub measured_argument :
-      (r : List ℕ) (i n m u : ℕ) (b : Bool) → (n ≡ 0 → ⊥) → argument i ≡ decode r → good decode (kinds (values_of v.args)) r ≡ true
-      → Measured (run decode (n - 1) (env_of v) (going (take (length r - 2) (drop 2 r)) [])) (m + length (shown (env_of v) i)) u b → Measured (run decode n (env_of v) (going r [])) m u b
-  unfolding size exits pick output
-  measured_argument r i n m u b l q g h = measured_on r (argument i) n m u b (take (length r - 2) (drop 2 r)) l q g (omega arith) (behind r 2) h
+    -- what its first step says fits
+    pub fits_first : (a : S) → fits a (says decode (env_of v) r) → fits a (output s (env_of v))
+    fits_first a h = elim (is_end s) [ inl e ↦ fits_end a e h | inr o ↦ fits_other a o h ]
 
-  -- what good code says, a law for each step
-  pub ends_says : (r : List ℕ) → ends ≡ decode r → good decode (kinds (values_of v.args)) r ≡ true → says decode (env_of v) r ≡ []
-  unfolding exits output
-  ends_says r q g = says_end decode (kinds (values_of v.args)) (env_of v) refl (env_six v) r ends q g refl
+    -- and then the rest
+    pub fits_rest : (a b : S) → (s ≡ ends → ⊥) → fits a (says decode (env_of v) r) → puts a (output s (env_of v)) b → fits b (says decode (env_of v) (drop (size s) r))
+    fits_rest a b o h p = laws.rest a b (output s (env_of v)) (says decode (env_of v) (drop (size s) r)) (rw (says_rest v r s q g o) at h) p
 
-  pub letters_says : (r t : List ℕ) → letters t ≡ decode r → good decode (kinds (values_of v.args)) r ≡ true → says decode (env_of v) r ≡ t ++ says decode (env_of v) (take (length r - (2 + length t)) (drop (2 + length t) r))
-  unfolding size exits pick output
-  letters_says r t q g = says_on decode (kinds (values_of v.args)) (env_of v) refl (env_six v) r (letters t) q g (omega arith) ∙ ap (λ (y : List ℕ). t ++ says decode (env_of v) y) (behind r (2 + length t))
+    pub walked_end : (n : ℕ) (a b : S) → (n ≡ 0 → ⊥) → s ≡ ends → puts a (output s (env_of v)) b → Walked puts (run decode n (env_of v) (going r [])) a b true
+    walked_end zero a b l e p = absurd (l refl)
+    walked_end (suc n) a b l e p = subst (λ (st : State). Walked puts st a b true) (sym (run_end decode n (env_of v) r s q (step_asks v r s q g) (ends_none s e))) (refl, p)
 
-  pub argument_says : (r : List ℕ) (i : ℕ) → argument i ≡ decode r → good decode (kinds (values_of v.args)) r ≡ true → says decode (env_of v) r ≡ shown (env_of v) i ++ says decode (env_of v) (take (length r - 2) (drop 2 r))
-  unfolding size exits pick output
-  argument_says r i q g = says_on decode (kinds (values_of v.args)) (env_of v) refl (env_six v) r (argument i) q g (omega arith) ∙ ap (λ (y : List ℕ). shown (env_of v) i ++ says decode (env_of v) y) (behind r 2)
-
-  -- a run that was measured to its end came to what the code says
-  pub measured_done :
-      (r : List ℕ) (n t u : ℕ) → good decode (kinds (values_of v.args)) r ≡ true → Measured (run decode n (env_of v) (going r [])) t u true
-      → (run decode n (env_of v) (going r []) ≡ done (says decode (env_of v) r)) × (u ≡ t + length (says decode (env_of v) r))
-  measured_done r n t u g h = go (run decode n (env_of v) (going r [])) refl h
-    where
-      go : (s : State) → run decode n (env_of v) (going r []) ≡ s → Measured s t u true → (run decode n (env_of v) (going r []) ≡ done (says decode (env_of v) r)) × (u ≡ t + length (says decode (env_of v) r))
-      go (going r₁ out) q h = absurd (true≢false h)
-      go (done out) q h =
-          let same = only_says decode (kinds (values_of v.args)) (env_of v) refl (env_six v) n r out g q in
-          (q ∙ ap done same, omega (arith, h.1, ap length same))
-      go stuck q h = absurd h
+    pub walked_on : (n : ℕ) (a b c : S) (w : Bool) → (n ≡ 0 → ⊥) → (s ≡ ends → ⊥) → puts a (output s (env_of v)) b → Walked puts (run decode (n - 1) (env_of v) (going (drop (size s) r) [])) b c w → Walked puts (run decode n (env_of v) (going r [])) a c w
+    walked_on zero a b c w l o p h = absurd (l refl)
+    walked_on (suc n) a b c w l o p h =
+        let k : suc n - 1 ≡ n = omega arith in
+        subst (λ (st : State). Walked puts st a c w) (sym (run_rest v r s q g o n)) (walked_before (output s (env_of v)) (run decode n (env_of v) (going (drop (size s) r) [])) a b c w p (rw k at h))

@@ -1,10 +1,13 @@
 -- Things told that pass are of their kinds and within the letters. Assumes nothing.
-use Rattle.std.proofs.Common.{◌≡◌, ℕ, zero, suc, ◌+◌, ◌-◌, ◌*◌, ◌<◌, ◌≤◌, Bool, true, false, cond, ◌&&◌, eqb, leb, ◌⊎◌, List, [], ◌∷◌, length, get_or, take, drop, Some, None, Option, sym, refl, ap, ◌∙◌, subst, ap₂, inl, inr, arith}
-use Rattle.std.proofs.lemmas.Bool.{true≢false, leb-true, eqb-true, le-leb, eq-eqb, ne_eqb, and_parts, and_from, or_cases, or_left, or_right, cases_Bool, leb-false}
-use Rattle.code.specs.Step.{text, number, kind, kinds, value_at}
-use Rattle.code.proofs.Laws.{length_kinds}
+use Rattle.std.proofs.Common.{◌≡◌, ℕ, zero, suc, ◌+◌, ◌-◌, ◌*◌, ◌<◌, ◌≤◌, Bool, true, false, cond, not, ◌&&◌, eqb, ltb, leb, min, map, zip, ◌⊎◌, List, [], ◌∷◌, ◌/◌, length, get_or, take, drop, Some, None, Option, sym, refl, ap, ◌∙◌, subst, ap₂, inl, inr, arith}
+use Rattle.std.proofs.lemmas.Bool.{ltb-true, ltb-false, true≢false, leb-true, eqb-true, le-leb, eq-eqb, ne_eqb, and_parts, and_from, or_cases, or_left, or_right, cases_Bool, leb-false}
+use Rattle.code.specs.Step.{text, number, kind, kinds}
 use Rattle.plural.specs.Rules.{later}
-use Rattle.render.specs.Told.{value_in, values_in, thing_ok, wrong_thing, ThingWell, ToldWell, Kinded, Within}
+use Rattle.std.specs.List.{position, position_or_len}
+use Rattle.std.specs.Simd.{first_chunks}
+use Rattle.std.proofs.lemmas.Slice.Zip.{length-zip}
+use Rattle.render.specs.Told.{value_in, values_in, thing_ok, bad_thing, wrong_thing, thing_refusal, told_fault, ThingWell, ToldWell, Kept}
+use Rattle.render.specs.View.{value_of}
 
 -- one thing that passes
 ok_kind : (ls : List ℕ) (k a b c : ℕ) → thing_ok ls k a b c ≡ true → a ≡ k
@@ -149,78 +152,112 @@ things_kinds ls (a ∷ b ∷ c ∷ ts) (k ∷ ks) q = go (λ h. things_kinds ls 
     go ih true t (Some j) h q = let z : ◌≡◌ {A = ℕ} 0 1 = cc in absurd (omega arith)
     go ih true t None h q = ap₂ ◌∷◌ (value_kind ls k a b c t) (ih h)
 
--- the facts that arguments carry, from the test
-module _ (ls ts ks : List ℕ) (passed : wrong_thing ls ts ks ≡ None) where
-  is_whole : length ts ≡ 3 * length ks
-  is_whole = (things_well ls ts ks passed).0
-
-  pub is_counted : length ts ≡ 3 * length (values_in ls ts)
-  is_counted = omega (arith, is_whole, length_kinds (values_in ls ts), ap length (things_kinds ls ts ks passed))
-
-  pub is_kinded : Kinded ts
-  is_kinded i l =
-      let w = (things_well ls ts ks passed).1 i (omega (arith, is_whole)) in
-      elim w.within [ inl q ↦ omega arith | inr q ↦ omega (arith, q.0) ]
-
-  pub is_within : Within ts ls
-  is_within i l z =
-      let w = (things_well ls ts ks passed).1 i (omega (arith, is_whole)) in
-      elim w.within [ inl q ↦ absurd (omega arith) | inr q ↦ (q.1, q.2) ]
-
--- the argument of a number, by its three numbers
-pub value_at_in : (ls ts : List ℕ) (i : ℕ) → 3 * i + 3 ≤ length ts → value_at (values_in ls ts) i ≡ value_in ls (get_or ts (3 * i) 0) (get_or ts (3 * i + 1) 0) (get_or ts (3 * i + 2) 0)
-unfolding value_at values_in
-value_at_in ls [] i l = absurd (omega arith)
-value_at_in ls (a ∷ []) i l = absurd (omega arith)
-value_at_in ls (a ∷ b ∷ []) i l = absurd (omega arith)
-value_at_in ls (a ∷ b ∷ c ∷ ts) zero l = refl
-value_at_in ls (a ∷ b ∷ c ∷ ts) (suc i) l =
-    value_at_in ls ts i (omega arith)
-    ∙ ap (λ (x : ℕ). value_in ls x (get_or ts (3 * i + 1) 0) (get_or ts (3 * i + 2) 0)) (sym (at_later_0 ls a b c ts 0 [] i))
-    ∙ ap (λ (x : ℕ). value_in ls (get_or (a ∷ b ∷ c ∷ ts) (3 * suc i) 0) x (get_or ts (3 * i + 2) 0)) (sym (at_later ls a b c ts 0 [] i 1))
-    ∙ ap (λ (x : ℕ). value_in ls (get_or (a ∷ b ∷ c ∷ ts) (3 * suc i) 0) (get_or (a ∷ b ∷ c ∷ ts) (3 * suc i + 1) 0) x) (sym (at_later ls a b c ts 0 [] i 2))
-
 pub value_number : (ls : List ℕ) (a b c : ℕ) → a ≡ 1 → number b ≡ value_in ls a b c
 value_number ls a b c q = sym (ap (λ (t : Bool). cond t (number b) (text (take c (drop b ls)))) (eq-eqb a 1 q))
 
 pub value_text : (ls : List ℕ) (a b c : ℕ) → (a ≡ 1 → ⊥) → text (take c (drop b ls)) ≡ value_in ls a b c
 value_text ls a b c q = sym (ap (λ (t : Bool). cond t (number b) (text (take c (drop b ls)))) (ne_eqb a 1 q))
 
--- the test, arm by arm
-pub none_wrong : (ls ts ks : List ℕ) → length ts ≡ 0 → length ks ≡ 0 → None ≡ wrong_thing ls ts ks
-unfolding wrong_thing
-none_wrong ls [] [] l m = refl
-none_wrong ls [] (k ∷ ks) l m = absurd (omega arith)
-none_wrong ls (a ∷ ts) ks l m = absurd (omega arith)
+-- a thing that passes is kept as an argument
+ok_kept : (ls : List ℕ) (k a b c : ℕ) → thing_ok ls k a b c ≡ true → Kept ls (a ∷ b ∷ c ∷ [])
+ok_kept ls k a b c h =
+    record {
+      kinded = elim (ok_within ls k a b c h) [ inl q ↦ omega arith | inr q ↦ omega (arith, q.0) ];
+      within = λ z. elim (ok_within ls k a b c h) [ inl q ↦ absurd (omega arith) | inr q ↦ (q.1, q.2) ];
+    }
 
-pub surplus_wrong : (ls ts ks : List ℕ) → 0 < length ts → length ks ≡ 0 → Some 0 ≡ wrong_thing ls ts ks
-unfolding wrong_thing
-surplus_wrong ls [] ks l m = absurd (omega arith)
-surplus_wrong ls (a ∷ []) ks l m = refl
-surplus_wrong ls (a ∷ b ∷ []) ks l m = refl
-surplus_wrong ls (a ∷ b ∷ c ∷ ts) [] l m = refl
-surplus_wrong ls (a ∷ b ∷ c ∷ ts) (k ∷ ks) l m = absurd (omega arith)
+-- things by threes are all that can be said of them
+pub threes_values : (n : ℕ) (ls ts : List ℕ) → 3 * n ≤ length ts → length ts < 3 * n + 3 → map (value_of ls) (first_chunks 3 n ts) ≡ values_in ls ts
+unfolding values_in
+threes_values zero ls [] l m = refl
+threes_values zero ls (a ∷ []) l m = refl
+threes_values zero ls (a ∷ b ∷ []) l m = refl
+threes_values zero ls (a ∷ b ∷ c ∷ ts) l m = absurd (omega arith)
+threes_values (suc n) ls [] l m = absurd (omega arith)
+threes_values (suc n) ls (a ∷ []) l m = absurd (omega arith)
+threes_values (suc n) ls (a ∷ b ∷ []) l m = absurd (omega arith)
+threes_values (suc n) ls (a ∷ b ∷ c ∷ ts) l m = ap (λ vs. value_in ls a b c ∷ vs) (threes_values n ls ts (omega arith) (omega arith))
 
-pub missing_wrong : (ls ts ks : List ℕ) → length ts < 3 → 0 < length ks → Some 0 ≡ wrong_thing ls ts ks
+pub threes_kept : (n : ℕ) (ls ts ks : List ℕ) → wrong_thing ls ts ks ≡ None → 3 * n ≤ length ts → (i : ℕ) → i < length (first_chunks 3 n ts) → Kept ls (get_or (first_chunks 3 n ts) i [])
 unfolding wrong_thing
-missing_wrong ls [] [] l m = absurd (omega arith)
-missing_wrong ls [] (k ∷ ks) l m = refl
-missing_wrong ls (a ∷ []) ks l m = refl
-missing_wrong ls (a ∷ b ∷ []) ks l m = refl
-missing_wrong ls (a ∷ b ∷ c ∷ ts) ks l m = absurd (omega arith)
+threes_kept zero ls ts ks q l i m = absurd (omega arith)
+threes_kept (suc n) ls [] ks q l i m = absurd (omega arith)
+threes_kept (suc n) ls (a ∷ []) ks q l i m = absurd (omega arith)
+threes_kept (suc n) ls (a ∷ b ∷ []) ks q l i m = absurd (omega arith)
+threes_kept (suc n) ls (a ∷ b ∷ c ∷ ts) [] q l i m = let z : ◌≡◌ {A = ℕ} 0 1 = cc in absurd (omega arith)
+threes_kept (suc n) ls (a ∷ b ∷ c ∷ ts) (k ∷ ks) q l i m = go (λ h j w. threes_kept n ls ts ks h (omega arith) j w) (thing_ok ls k a b c) refl (wrong_thing ls ts ks) refl q i m
+  where
+    go : (wrong_thing ls ts ks ≡ None → (j : ℕ) → j < length (first_chunks 3 n ts) → Kept ls (get_or (first_chunks 3 n ts) j [])) → (t : Bool) → thing_ok ls k a b c ≡ t → (o : Option ℕ) → wrong_thing ls ts ks ≡ o → cond t (later o) (Some 0) ≡ None → (i : ℕ) → i < length (first_chunks 3 (suc n) (a ∷ b ∷ c ∷ ts)) → Kept ls (get_or (first_chunks 3 (suc n) (a ∷ b ∷ c ∷ ts)) i [])
+    go ih false t o h q i m = let z : ◌≡◌ {A = ℕ} 0 1 = cc in absurd (omega arith)
+    go ih true t (Some j) h q i m = let z : ◌≡◌ {A = ℕ} 0 1 = cc in absurd (omega arith)
+    go ih true t None h q zero m = ok_kept ls k a b c t
+    go ih true t None h q (suc i) m = ih h i (omega arith)
 
-pub wrong_at : (ls ts ks : List ℕ) → 3 ≤ length ts → 0 < length ks → wrong_thing ls ts ks ≡ cond (thing_ok ls (get_or ks 0 0) (get_or ts 0 0) (get_or ts 1 0) (get_or ts 2 0)) (later (wrong_thing ls (drop 3 ts) (drop 1 ks))) (Some 0)
+-- a search through so many things and kinds that stopped at p: there is what is wrong; if it found nothing, it is well exactly if there is a thing for each kind
+pub record Found (w : Option ℕ) (p n things kinds : ℕ) : Type 0 where
+  pub wrong : p < n → w ≡ Some p
+  pub right : n ≤ p → things ≡ 3 * kinds → w ≡ None
+  pub count : n ≤ p → (things ≡ 3 * kinds → ⊥) → w ≡ Some n
+
+found_on : (t : Bool) (w : Option ℕ) (p n things kinds : ℕ) → Found w p n things kinds → Found (cond t (later w) (Some 0)) (cond (not (not t)) (1 + p) 0) (suc n) (suc (suc (suc things))) (suc kinds)
+found_on false w p n things kinds f = record { wrong = λ l. refl; right = λ l e. absurd (omega arith); count = λ l e. absurd (omega arith) }
+found_on true w p n things kinds f =
+    let more : suc p ≡ 1 + p = omega arith in
+    record {
+      wrong = λ l. ap later (f.wrong (omega arith)) ∙ ap Some more;
+      right = λ l e. ap later (f.right (omega arith) (omega arith));
+      count = λ l e. ap later (f.count (omega arith) (λ q. e (omega arith)));
+    }
+
+pub threes_found : (n : ℕ) (ls ts ks : List ℕ) → 3 * n ≤ length ts → length ts < 3 * n + 3 → Found (wrong_thing ls ts ks) (position_or_len (bad_thing ls) (zip (first_chunks 3 n ts) ks)) (length (zip (first_chunks 3 n ts) ks)) (length ts) (length ks)
 unfolding wrong_thing
-wrong_at ls [] ks l m = absurd (omega arith)
-wrong_at ls (a ∷ []) ks l m = absurd (omega arith)
-wrong_at ls (a ∷ b ∷ []) ks l m = absurd (omega arith)
-wrong_at ls (a ∷ b ∷ c ∷ ts) [] l m = absurd (omega arith)
-wrong_at ls (a ∷ b ∷ c ∷ ts) (k ∷ ks) l m = refl
+threes_found zero ls [] [] l m = record { wrong = λ o. absurd (omega arith); right = λ o e. refl; count = λ o e. absurd (e (omega arith)) }
+threes_found zero ls [] (k ∷ ks) l m = record { wrong = λ o. absurd (omega arith); right = λ o e. absurd (omega arith); count = λ o e. refl }
+threes_found zero ls (a ∷ []) ks l m = record { wrong = λ o. absurd (omega arith); right = λ o e. absurd (omega arith); count = λ o e. refl }
+threes_found zero ls (a ∷ b ∷ []) ks l m = record { wrong = λ o. absurd (omega arith); right = λ o e. absurd (omega arith); count = λ o e. refl }
+threes_found zero ls (a ∷ b ∷ c ∷ ts) ks l m = absurd (omega arith)
+threes_found (suc n) ls [] ks l m = absurd (omega arith)
+threes_found (suc n) ls (a ∷ []) ks l m = absurd (omega arith)
+threes_found (suc n) ls (a ∷ b ∷ []) ks l m = absurd (omega arith)
+threes_found (suc n) ls (a ∷ b ∷ c ∷ ts) [] l m = record { wrong = λ o. absurd (omega arith); right = λ o e. absurd (omega arith); count = λ o e. refl }
+threes_found (suc n) ls (a ∷ b ∷ c ∷ ts) (k ∷ ks) l m =
+    found_on (thing_ok ls k a b c) (wrong_thing ls ts ks) (position_or_len (bad_thing ls) (zip (first_chunks 3 n ts) ks)) (length (zip (first_chunks 3 n ts) ks)) (length ts) (length ks)
+    (threes_found n ls ts ks (omega arith) (omega arith))
 
-pub wrong_few : (ls ts ks : List ℕ) (n : ℕ) → wrong_thing ls ts ks ≡ Some n → n ≤ length ks
-wrong_few ls ts ks zero q = omega arith
-wrong_few ls ts ks (suc n) q = omega (arith, ((things_wrong ls ts ks (suc n) q).2 n (omega arith)).kinded)
+search_none : (t : Bool) (p : ℕ) → cond t (Some p) None ≡ None → t ≡ false
+search_none true p q = let z : ◌≡◌ {A = ℕ} 0 1 = cc in absurd (omega arith)
+search_none false p q = refl
+
+search_some : (t : Bool) (p n : ℕ) → cond t (Some p) None ≡ Some n → (t ≡ true) × (p ≡ n)
+search_some true p n q = (refl, cc)
+search_some false p n q = let z : ◌≡◌ {A = ℕ} 0 1 = cc in absurd (omega arith)
+
+-- what the search of the program answers
+module _ (ls ts ks : List ℕ) (cs : List (List ℕ)) (threes : cs ≡ first_chunks 3 (length ts / 3) ts) where
+  found : Found (wrong_thing ls ts ks) (position_or_len (bad_thing ls) (zip cs ks)) (length (zip cs ks)) (length ts) (length ks)
+  found = subst (λ (xs : List (List ℕ)). Found (wrong_thing ls ts ks) (position_or_len (bad_thing ls) (zip xs ks)) (length (zip xs ks)) (length ts) (length ks)) (sym threes) (threes_found (length ts / 3) ls ts ks (omega arith) (omega arith))
+
+  pub found_wrong : (n : ℕ) → position (bad_thing ls) (zip cs ks) ≡ Some n → wrong_thing ls ts ks ≡ Some n
+  found_wrong n q =
+      let s = search_some (ltb (position_or_len (bad_thing ls) (zip cs ks)) (length (zip cs ks))) (position_or_len (bad_thing ls) (zip cs ks)) n q in
+      found.wrong (ltb-true (position_or_len (bad_thing ls) (zip cs ks)) (length (zip cs ks)) s.0) ∙ ap Some s.1
+
+  through : position (bad_thing ls) (zip cs ks) ≡ None → length (zip cs ks) ≤ position_or_len (bad_thing ls) (zip cs ks)
+  through q = ltb-false (position_or_len (bad_thing ls) (zip cs ks)) (length (zip cs ks)) (search_none (ltb (position_or_len (bad_thing ls) (zip cs ks)) (length (zip cs ks))) (position_or_len (bad_thing ls) (zip cs ks)) q)
+
+  pub found_right : position (bad_thing ls) (zip cs ks) ≡ None → length ts ≡ 3 * length ks → wrong_thing ls ts ks ≡ None
+  found_right q e = found.right (through q) e
+
+  pub found_count : (n : ℕ) → position (bad_thing ls) (zip cs ks) ≡ None → (length ts ≡ 3 * length ks → ⊥) → n ≡ min (length cs) (length ks) → wrong_thing ls ts ks ≡ Some n
+  found_count n q e m = found.count (through q) e ∙ ap Some (length-zip cs ks ∙ sym m)
 
 -- things told of the kinds that a message has
 pub told_right : (ls ts ks js : List ℕ) → None ≡ wrong_thing ls ts ks → ks ≡ js → ToldWell ls ts js × (kinds (values_in ls ts) ≡ js)
 told_right ls ts ks js q e = subst (λ (k : List ℕ). ToldWell ls ts k × (kinds (values_in ls ts) ≡ k)) e (things_well ls ts ks (sym q), things_kinds ls ts ks (sym q))
+
+pub refused_none : (ls ts ks : List ℕ) → told_fault ls ts ks ≡ None → wrong_thing ls ts ks ≡ None
+refused_none ls ts ks q = go (wrong_thing ls ts ks) q
+  where
+    go : (o : Option ℕ) → thing_refusal o ≡ None → o ≡ None
+    go None q = refl
+    go (Some k) q = cc

@@ -1,5 +1,5 @@
 -- What saying answers and leaves in the room, for all that is lent. Assumes nothing: these are definitions.
-use Rattle.std.specs.Prelude.{◌≡◌, ℕ, ◌+◌, ◌*◌, ◌<◌, ◌≤◌, Bool, true, false, List, [], ◌++◌, length, drop, Some, None, Ok, Err, Option, Result}
+use Rattle.std.specs.Prelude.{◌≡◌, ℕ, ◌*◌, ◌<◌, ◌≤◌, List, [], ◌++◌, length, drop, Some, None, Ok, Err, Option, Result}
 use Rattle.code.specs.Step.{kinds, Env, shown, decode}
 use Rattle.code.specs.Code.{State, going, done, stuck, run, met, way, outputs}
 use Rattle.code.specs.Refused.{number_of}
@@ -10,11 +10,11 @@ use Rattle.verifier.specs.Verdict.{or_else, fault_of}
 use Rattle.render.specs.Told.{values_in, told_fault, ToldWell, ThingRefused}
 use Rattle.render.specs.declared.answer.Answer as answer
 
--- what is measured of a run: that it is done, and how much longer it makes what was said before; good code is never stuck
-abbrev pub Measured : State → (before after : ℕ) → Bool → Type 0
-Measured (going r out) t u b = b ≡ false
-Measured (done out) t u b = (b ≡ true) × (u ≡ t + length out)
-Measured stuck t u b = ⊥
+-- what is measured of a run: how long what it says is, if it is done; good code is never stuck
+abbrev pub Measured : State → Option ℕ → Type 0
+Measured (going r out) n = n ≡ None
+Measured (done out) n = n ≡ Some (length out)
+Measured stuck n = ⊥
 
 -- a text is put into the room, or its length is answered and nothing changes
 abbrev pub Put : List ℕ → (room room₁ : List ℕ) → answer.Answer → Type 0

@@ -1,5 +1,5 @@
 -- What a message is told, as it is lent: three numbers for each thing, and the letters of its texts. Assumes nothing: these are definitions.
-use Rattle.std.specs.Prelude.{◌≡◌, ℕ, ◌+◌, ◌-◌, ◌*◌, ◌<◌, ◌≤◌, Bool, cond, ◌&&◌, ◌||◌, ◌⊎◌, List, [], ◌∷◌, length, take, drop, Some, None, Option, ◌==◌, nat_le, slice_index, slice_index_or}
+use Rattle.std.specs.Prelude.{◌≡◌, ℕ, ◌+◌, ◌-◌, ◌*◌, ◌<◌, ◌≤◌, Bool, cond, not, ◌&&◌, ◌||◌, ◌⊎◌, List, [], ◌∷◌, length, take, drop, Some, None, Option, ◌==◌, nat_le, slice_index, slice_index_or}
 use Rattle.code.specs.Step.{Value, text, number}
 use Rattle.code.specs.declared.refusal.Refusal as refusal
 use Rattle.plural.specs.Rules.{later}
@@ -59,10 +59,11 @@ ThingRefused ls ts ks (refusal.TheVariants.Step at) = ⊥
 ThingRefused ls ts ks (refusal.TheVariants.Rule at) = ⊥
 ThingRefused ls ts ks (refusal.TheVariants.Argument at) = ((at < length ks) ⊎ (3 * at < length ts)) × (ThingWell ls ts ks at → ⊥) × ((i : ℕ) → i < at → ThingWell ls ts ks i)
 
--- what an argument is read by: its first number is 0 or 1
-abbrev pub Kinded : List ℕ → Type 0
-Kinded ts = (i : ℕ) → 3 * i + 2 < length ts → slice_index ts (3 * i) ≤ 1
+-- what an argument is read by: its first number is 0 or 1, and a text lies within the letters and is not too long
+pub record Kept (ls t : List ℕ) : Type 0 where
+  pub kinded : slice_index t 0 ≤ 1
+  pub within : slice_index t 0 ≡ 0 → (slice_index t 1 + slice_index t 2 ≤ length ls) × (slice_index t 2 ≤ 4294967296)
 
--- each text lies within the letters, and is not too long
-abbrev pub Within : (ts ls : List ℕ) → Type 0
-Within ts ls = (i : ℕ) → 3 * i + 2 < length ts → slice_index ts (3 * i) ≡ 0 → (slice_index ts (3 * i + 1) + slice_index ts (3 * i + 2) ≤ length ls) × (slice_index ts (3 * i + 2) ≤ 4294967296)
+-- a thing, by its three numbers, that isn't as its kind asks
+abbrev pub bad_thing : List ℕ → (List ℕ × ℕ) → Bool
+bad_thing ls p = not (thing_ok ls p.1 (slice_index p.0 0) (slice_index p.0 1) (slice_index p.0 2))

@@ -1,6 +1,6 @@
 // What saying a message comes to.
 
-#[derive(Clone, Copy)]
+#[derive(Clone, Copy, Debug, PartialEq, Eq)]
 pub enum Answer {
     // It was put into the room; how long it is.
     Spoken(u64),

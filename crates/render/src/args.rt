@@ -1,12 +1,10 @@
-// The arguments of a message: what it was told and the letters of its texts, borrowed, and known to be well told.
-ghost use Rattle.std.specs.Prelude.{◌≡◌, ◌*◌, length};
-ghost use Rattle.render.specs.Told.{values_in, Kinded, Within};
+// The arguments of a message: things told that are known to be well told, borrowed, and the letters of their texts.
+ghost use Rattle.std.specs.Prelude.{◌≡◌, ℕ, ◌+◌, ◌<◌, ◌≤◌, length, slice_index, slice_index_or, []};
+ghost use Rattle.render.specs.Told.{Kept};
 
-#[derive(Clone, Copy)]
+#[derive(Clone, Copy, Debug)]
 pub(crate) struct Args<'t, 'l> {
-    pub(crate) told: &'t [u64],
+    pub(crate) things: &'t [[u64; 3]],
     pub(crate) letters: &'l [u8],
-    ghost whole: { length told.now ≡ 3 * length (values_in letters.now told.now) },
-    ghost kinded: { Kinded told.now },
-    ghost within: { Within told.now letters.now },
+    ghost kept: { (i : ℕ) → i < length things.now → Kept letters.now (slice_index_or things.now i []) },
 }

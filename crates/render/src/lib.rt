@@ -4,17 +4,21 @@
 mod answer;
 mod arg;
 mod args;
+mod arguments;
+mod counter;
 mod entry;
 mod env;
 mod length;
 mod promises;
 mod put;
+mod sink;
 mod told;
+mod walk;
 mod within;
-mod write;
 mod writer;
 
 pub use answer::Answer;
 pub use entry::{render, say, try_say};
-pub use promises::same_classes;
+pub use promises::promise;
+pub use told::Told;
 pub use within::render_within;

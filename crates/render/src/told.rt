@@ -1,73 +1,58 @@
-// What is told is tested against the kinds, and read by its number.
-ghost use Rattle.std.specs.Prelude.{◌≡◌, ℕ, ◌<◌, List, length, None};
-ghost use Rattle.code.specs.Step.{value_at};
-ghost use Rattle.render.specs.Told.{thing_ok, wrong_thing};
-ghost use Rattle.render.specs.View.{holds, values_of};
+// What a message is told, as it is lent, and tested against the kinds.
+ghost use Rattle.std.specs.Prelude.{◌≡◌, ◌+◌, not, None, MatchResult, slice_index, position, zip, List, ℕ};
+ghost use Rattle.code.specs.Step as step;
+ghost use Rattle.render.specs.Told.{thing_ok, bad_thing, told_fault, values_in, ToldWell, ThingRefused};
 
-use crate::arg::Arg;
-use crate::args::Args;
+use code::{Kind, Refusal};
 
-// Whether a thing is of its kind, and a text within the letters.
-fn thing_ok(letters: &[u8], kind: u8, thing: u64, start: u64, len: u64) -> bool
-    ensures { result ≡ thing_ok letters.now kind thing start len }
-{
-    if thing != kind as u64 {
-        return false;
-    }
-    if thing == 1 {
-        return true;
-    }
-    let most = letters.len() as u64;
-    if thing != 0 || start > most || len > most - start {
-        return false;
-    }
-    len <= Args::MAX_TEXT
+#[derive(Clone, Copy, Debug)]
+pub struct Told<'t, 'l> {
+    // Three numbers for each thing.
+    pub things: &'t [u64],
+    // The letters of all texts.
+    pub letters: &'l [u8],
 }
 
-// The first thing that is wrong.
-pub(crate) fn wrong_thing(letters: &[u8], told: &[u64], kinds: &[u8]) -> Option<usize>
-    ensures { result ≡ wrong_thing letters.now told.now kinds.now }
-{
-    let [kind, others @ ..] = kinds else {
-        return if told.is_empty() { None } else { Some(0) };
-    };
-    let [thing, start, len, rest @ ..] = told else {
-        return Some(0);
-    };
-    if !thing_ok(letters, *kind, *thing, *start, *len) {
-        return Some(0);
-    }
-    match wrong_thing(letters, rest, others) {
-        Some(at) => Some(at + 1),
-        None => None,
-    }
-}
-
-impl<'t, 'l> Args<'t, 'l> {
+impl Told<'_, '_> {
     // The longest text.
     pub(crate) const MAX_TEXT: u64 = 1 << 32;
 
-    // Of things that are well told for some kinds.
-    pub(crate) fn new(told: &'t [u64], letters: &'l [u8]) -> Args<'t, 'l>
-        requires { (ks : List ℕ) × (wrong_thing letters.now told.now ks ≡ None) }
-        ensures told { result.told.now ≡ told.now }
-        ensures letters { result.letters.now ≡ letters.now }
+    // Whether a thing is of its kind, and a text within the letters.
+    fn is_well(&self, kind: u8, thing: &[u64; 3]) -> bool
+        ensures { result ≡ thing_ok self.now.letters.now kind (slice_index thing.now 0) (slice_index thing.now 1) (slice_index thing.now 2) }
     {
-        Args { told, letters }
+        let [tag, start, len] = *thing;
+        if tag != u64::from(kind) {
+            return false;
+        }
+        let most = self.letters.len() as u64;
+        match Kind::try_from(kind) {
+            Ok(Kind::Number) => true,
+            Ok(Kind::Text) => start <= most && len <= most - start && len <= Self::MAX_TEXT,
+            Err(_) => false,
+        }
     }
 
-    // The argument of this number.
-    pub(crate) fn get(&self, i: usize) -> Arg<'l>
-        requires { i < length (values_of self.now) }
-        ensures { holds result ≡ value_at (values_of self.now) i }
+    // The first thing that has a kind and isn't well.
+    fn first_wrong(&self, things: &[[u64; 3]], kinds: &[u8]) -> Option<usize>
+        ensures { result ≡ position (bad_thing self.now.letters.now) (zip things.now kinds.now) }
     {
-        let first = self.told[3 * i + 1];
-        if self.told[3 * i] == 1 {
-            Arg::Number(first)
-        } else {
-            let start = first as usize;
-            let len = self.told[3 * i + 2] as usize;
-            Arg::Text(&self.letters[start..start + len])
+        things
+            .iter()
+            .zip(kinds)
+            .position(|(thing, kind)| !self.is_well(*kind, thing))
+    }
+
+    // Whether there is one thing for each kind, and each is well; if not, the first that isn't.
+    pub(crate) fn check(&self, kinds: &[u8]) -> Result<(), Refusal>
+        ensures answer { MatchResult result (λ _. told_fault self.now.letters.now self.now.things.now kinds.now ≡ None) (λ f. told_fault self.now.letters.now self.now.things.now kinds.now ≡ Some f) }
+        ensures exactly { MatchResult result (λ _. ToldWell self.now.letters.now self.now.things.now kinds.now × (step.kinds (values_in self.now.letters.now self.now.things.now) ≡ kinds.now)) (λ f. ThingRefused self.now.letters.now self.now.things.now kinds.now f) }
+    {
+        let (things, rest) = self.things.as_chunks::<3>();
+        match self.first_wrong(things, kinds) {
+            Some(at) => Err(Refusal::Argument(at)),
+            None if rest.is_empty() && things.len() == kinds.len() => Ok(()),
+            None => Err(Refusal::Argument(things.len().min(kinds.len()))),
         }
     }
 }

@@ -11,9 +11,9 @@ ghost use Rattle.render.specs.Saying.{SaidWithin, ToldExactly};
 use crate::answer::Answer;
 use crate::args::Args;
 use crate::env::Env;
-use crate::length::measure;
-use crate::put::put_all;
-use crate::told::wrong_thing;
+use crate::length::length;
+use crate::put::put;
+use crate::told::Told;
 use code::Refusal;
 use plural::Locale;
 use verifier::Message;
@@ -22,29 +22,24 @@ use verifier::Message;
 pub fn render_within(
     message: &Message,
     locale: &Locale,
-    told: &[u64],
-    letters: &[u8],
+    told: Told,
     budget: usize,
     room: &mut [u8],
 ) -> Result<Answer, Refusal>
-    ensures answer { SaidWithin (told_fault letters.now told.now (kinds_of message.now)) (run decode budget (env_in (rules_of locale.now) letters.now told.now) (going (code_of message.now) [])) room.old room.new result }
-    ensures exactly { ToldExactly letters.now told.now (kinds_of message.now) result }
+    ensures answer { SaidWithin (told_fault told.entry.letters.now told.entry.things.now (kinds_of message.now)) (run decode budget (env_in (rules_of locale.now) told.entry.letters.now told.entry.things.now) (going (code_of message.now) [])) room.old room.new result }
+    ensures exactly { ToldExactly told.entry.letters.now told.entry.things.now (kinds_of message.now) result }
 {
-    if let Some(at) = wrong_thing(letters, told, message.kinds()) {
-        return Err(Refusal::Argument(at));
-    }
     let env = Env {
         locale: *locale,
-        args: Args::new(told, letters),
+        args: Args::try_new(told, message.kinds())?,
     };
-    let mut left = message.code();
-    let mut total = 0;
-    if !measure(&mut left, &env, budget, &mut total) {
+    let code = message.code();
+    let Some(len) = length(code, &env, budget) else {
         return Ok(Answer::Unfinished);
+    };
+    if len > room.len() as u64 {
+        return Ok(Answer::Short(len));
     }
-    if total > room.len() as u64 {
-        return Ok(Answer::Short(total));
-    }
-    put_all(message.code(), &env, room);
-    Ok(Answer::Spoken(total))
+    put(code, &env, room);
+    Ok(Answer::Spoken(len))
 }

@@ -1,7 +1,33 @@
-// A room, and how much of it is written.
+// A sink that writes: a room, and how much of it is written. The place is kept beside the room, since what stands before it is part of what was promised.
+ghost use Rattle.std.specs.Prelude.{◌+◌, ◌≤◌, length};
+ghost use Rattle.plural.specs.Figures.{figures};
+ghost use Rattle.render.specs.Room.{Written};
+ghost use Rattle.render.specs.Writes.{writer_laws};
+
+use crate::sink::Sink;
+use plural::Figures;
 
 #[derive(Drop)]
 pub(crate) struct Writer<'a> {
     pub(crate) room: &'a mut [u8],
     pub(crate) at: usize,
+}
+
+impl Sink for Writer<'_> {
+    ghost fits = { λ s t. s.at + length t ≤ length s.room.now };
+
+    ghost puts = { Written };
+
+    ghost laws = { writer_laws };
+
+    fn letters(&mut self, part: &[u8]) {
+        let at = self.at;
+        let end = at + part.len();
+        self.room[at..end].copy_from_slice(part);
+        self.at = end;
+    }
+
+    fn number(&mut self, n: u64) {
+        self.letters(Figures::new(n).as_slice());
+    }
 }

@@ -1,10 +1,8 @@
 // Answers in words, for whoever runs the programs.
 #![tactic(auto)]
 
-mod faults;
-mod flaws;
-mod refusals;
+mod refused;
+mod verdict;
 
-pub use faults::ExpectedWords;
-pub use flaws::FlawWords;
-pub use refusals::{RefusalWords, Refused};
+pub use refused::Refused;
+pub use verdict::Verdict;

@@ -1,5 +1,6 @@
-// Message files: what is read, and where a text can't be.
-use msgfile::{Expected, ReadError, position_of, read_message};
+// Message files: what is read, and where a text can't be; and things told by words.
+use code::Kind;
+use msgfile::{Expected, Position, ReadError, TellError, Things, position_of, read_message};
 use plural::read_figures;
 use std::test::Fail;
 
@@ -25,43 +26,69 @@ fn nothing_told(rt: HostRuntime) -> Result<(), Fail> {
     Ok(())
 }
 
-// Which fault a text has, by line and column, or nothing.
-fn fault(rt: &HostRuntime, text: &[u8]) -> (u8, usize, usize) {
+// Which fault a text has, and where; none, if it can be read.
+fn fault(rt: &HostRuntime, text: &[u8]) -> Option<(Expected, Position)> {
     match read_message(rt.alloc(), text) {
-        Err(ReadError::Wrong(expected, left)) => {
-            let position = position_of(text, left);
-            let which = match expected {
-                Expected::Number => 1,
-                Expected::Name => 2,
-                Expected::Kind => 3,
-                Expected::Comma => 4,
-                Expected::Fewer => 5,
-            };
-            (which, position.line, position.column)
-        }
-        _ => (0, 0, 0),
+        Err(ReadError::Wrong(expected, left)) => Some((expected, position_of(text, left))),
+        _ => None,
     }
+}
+
+fn at(expected: Expected, line: usize, column: usize) -> Option<(Expected, Position)> {
+    Some((expected, Position { line, column }))
 }
 
 #[test]
 fn faults(rt: HostRuntime) {
-    assert!(rt; fault(&rt, b"1 2 x") == (1, 1, 5));
-    assert!(rt; fault(&rt, b"1\n2 256") == (1, 2, 5));
-    assert!(rt; fault(&rt, b"told , a text") == (2, 1, 6));
-    assert!(rt; fault(&rt, b"told a text,\n0") == (2, 1, 13));
-    assert!(rt; fault(&rt, b"told a number, b texts\n0") == (3, 1, 18));
-    assert!(rt; fault(&rt, b"told a\n0") == (3, 1, 7));
-    assert!(rt; fault(&rt, b"\ntold a text b text\n0") == (4, 2, 13));
-    assert!(rt; fault(&rt, "told \u{e9} txt".as_bytes()) == (3, 1, 8));
+    assert_eq!(rt; fault(&rt, b"1 2 x"), at(Expected::Number, 1, 5));
+    assert_eq!(rt; fault(&rt, b"1\n2 256"), at(Expected::Number, 2, 5));
+    assert_eq!(rt; fault(&rt, b"told , a text"), at(Expected::Name, 1, 6));
+    assert_eq!(rt; fault(&rt, b"told a text,\n0"), at(Expected::Name, 1, 13));
+    assert_eq!(rt;
+        fault(&rt, b"told a number, b texts\n0"),
+        at(Expected::Kind, 1, 18)
+    );
+    assert_eq!(rt; fault(&rt, b"told a\n0"), at(Expected::Kind, 1, 7));
+    assert_eq!(rt;
+        fault(&rt, b"\ntold a text b text\n0"),
+        at(Expected::Comma, 2, 13)
+    );
+    assert_eq!(rt;
+        fault(&rt, "told \u{e9} txt".as_bytes()),
+        at(Expected::Kind, 1, 8)
+    );
+}
+
+#[test]
+fn fault_in_words(rt: HostRuntime) -> Result<(), Fail> {
+    let Some((expected, position)) = fault(&rt, b"\ntold a text b text\n0") else {
+        return Err(Fail::new("it can be read"));
+    };
+    let words = format!(in rt.alloc(); "{position}: {expected}")?;
+    assert!(rt; words.as_str() == "2:13: expected a comma or the end of the line");
+    Ok(())
+}
+
+#[test]
+fn things_told(rt: HostRuntime) -> Result<(), Fail> {
+    let mut things = Things::new(rt.alloc());
+    things.thing(Kind::Text, b"Ida")?;
+    things.thing(Kind::Number, b"007")?;
+    things.text(b"Bo")?;
+    assert_eq!(rt; things.number(b"seven"), Err(TellError::NoNumber));
+    assert_eq!(rt; things.len(), 3);
+    assert!(rt; things.told.as_slice() == [0, 0, 3, 1, 7, 0, 0, 3, 2].as_slice());
+    assert!(rt; things.letters.as_slice() == b"IdaBo".as_slice());
+    Ok(())
 }
 
 #[test]
 fn figures_read(rt: HostRuntime) {
-    assert!(rt; read_figures(b"0") == Some(0));
-    assert!(rt; read_figures(b"007") == Some(7));
-    assert!(rt; read_figures(b"18446744073709551615") == Some(18446744073709551615));
-    assert!(rt; read_figures(b"18446744073709551616") == None);
-    assert!(rt; read_figures(b"") == None);
-    assert!(rt; read_figures(b"1x") == None);
-    assert!(rt; read_figures(b"+1") == None);
+    assert_eq!(rt; read_figures(b"0"), Some(0));
+    assert_eq!(rt; read_figures(b"007"), Some(7));
+    assert_eq!(rt; read_figures(b"18446744073709551615"), Some(u64::MAX));
+    assert_eq!(rt; read_figures(b"18446744073709551616"), None);
+    assert_eq!(rt; read_figures(b""), None);
+    assert_eq!(rt; read_figures(b"1x"), None);
+    assert_eq!(rt; read_figures(b"+1"), None);
 }

@@ -2,7 +2,6 @@
 use code::Said;
 use render::say;
 use std::process::Abort;
-use std::test::Fail;
 
 // A text, " has ", a number and " boats".
 pub(crate) const BOATS: [u8; 20] = [
@@ -11,16 +10,10 @@ pub(crate) const BOATS: [u8; 20] = [
 
 // Whether the room begins with a text and is untouched behind it.
 pub(crate) fn holds(room: &[u8], text: &[u8]) -> bool {
-    if text.len() > room.len() {
-        return false;
+    match room.strip_prefix(text) {
+        Some(rest) => rest.iter().all(|byte| *byte == b'.'),
+        None => false,
     }
-    for at in 0..room.len() {
-        let expected = if at < text.len() { text[at] } else { b'.' };
-        if room[at] != expected {
-            return false;
-        }
-    }
-    true
 }
 
 // The message says this text, and nothing else in the room changes.
@@ -31,17 +24,14 @@ pub(crate) fn says(
     told: &[u64],
     letters: &[u8],
     text: &[u8],
-) -> Result<(), Fail> {
+) {
     let mut room = [b'.'; 64];
-    match say(code, kinds, &[], told, letters, &mut room) {
-        Said::Spoken(len) => assert!(rt; len == text.len() as u64),
-        _ => return Err(Fail::new("it isn't spoken")),
-    }
+    let said = say(code, kinds, &[], told, letters, &mut room);
+    assert_eq!(rt; said, Said::Spoken(text.len() as u64));
     assert!(rt; holds(&room, text));
-    Ok(())
 }
 
-// The number of the refusal, or 0.
+// The number of the refusal, if there is one.
 pub(crate) fn refusal(
     rt: &impl Abort,
     code: &[u8],
@@ -49,12 +39,13 @@ pub(crate) fn refusal(
     rules: &[u64],
     told: &[u64],
     letters: &[u8],
-) -> u64 {
+) -> Option<u64> {
     let mut room = [b'.'; 8];
-    let number = match say(code, kinds, rules, told, letters, &mut room) {
-        Said::Refused(number) => number,
-        _ => 0,
-    };
-    assert!(rt; number == 0 || holds(&room, b""));
-    number
+    match say(code, kinds, rules, told, letters, &mut room) {
+        Said::Refused(number) => {
+            assert!(rt; holds(&room, b""));
+            Some(number)
+        }
+        _ => None,
+    }
 }

@@ -1,5 +1,6 @@
 -- What the verifier answers, for all code and kinds that are lent. Assumes nothing: these are definitions.
-use Rattle.std.specs.Prelude.{◌≡◌, ℕ, zero, suc, ◌+◌, ◌<◌, ◌≤◌, cond, List, [], ◌∷◌, length, Some, None, Option, nat_le, nat_lt, slice_index}
+use Rattle.std.specs.Prelude.{◌≡◌, ℕ, zero, ◌+◌, ◌<◌, ◌≤◌, cond, List, length, Some, None, Option, nat_lt, slice_index}
+use Rattle.std.specs.List.{position_or_len}
 use Rattle.code.specs.Step.{Step, ends, letters, argument, unknown, cut, decode}
 use Rattle.code.specs.Code.{good, bad_at}
 use Rattle.code.specs.Promise.{Begins, GoodStep, GoodCode}
@@ -21,9 +22,8 @@ abbrev pub flaw_of : (ks r : List ℕ) → Option flaw.Flaw
 flaw_of ks r = flaw_by ks r (decode r)
 
 -- how many kinds stand before the first that is neither a text's nor a number's; all of them if there is none
-unfoldable pub odd_kind : List ℕ → ℕ
-odd_kind [] = 0
-odd_kind (k ∷ ks) = cond (nat_le k 1) (suc (odd_kind ks)) 0
+abbrev pub odd_kind : List ℕ → ℕ
+odd_kind ks = position_or_len (nat_lt 1) ks
 
 -- the first of the limits and kinds that is wrong
 abbrev pub limit_fault : (c ks : List ℕ) → Option refusal.Refusal

@@ -13,6 +13,6 @@ pub fn check(code: &[u8], kinds: &[u8]) -> Said
     match verify(code, kinds) {
         Ok(()) => Said::Good,
         Err(Refusal::Step(_)) => Said::Bad,
-        Err(refusal) => Said::Refused(refusal.number()),
+        Err(refusal) => refusal.into(),
     }
 }

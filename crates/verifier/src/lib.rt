@@ -4,10 +4,9 @@
 mod entry;
 mod faults;
 mod flaw;
-mod limits;
 mod message;
 mod parts;
-mod scan;
+mod unchecked;
 
 pub use entry::check;
 pub use faults::{explain, verify};

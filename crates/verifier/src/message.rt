@@ -5,7 +5,7 @@ ghost use Rattle.code.specs.Code.{good};
 
 use code::Code;
 
-#[derive(Clone, Copy)]
+#[derive(Clone, Copy, Debug)]
 pub struct Message<'a> {
     pub(crate) code: Code<'a>,
     pub(crate) kinds: &'a [u8],

@@ -1,35 +1,37 @@
-use Rattle.std.proofs.Common.{◌≡◌, ℕ, ◌≤◌, List, length, take, drop, sym, refl, ◌∙◌, arith}
-use Rattle.plural.proofs.Ruled.{passed}
-use Rattle.plural.proofs.Classed.{moduli_passed, moduli_first, moduli_later, class_off, class_here, class_later, words_at}
+use Rattle.std.proofs.Common.{◌≡◌, ℕ, ◌/◌, ◌<◌, List, length, map, Some, None, Option, rules, tests, sym, subst, ap, ◌∙◌, arith}
+use Rattle.std.proofs.lemmas.Iterator.{YieldsList-from_slice, YieldsList-from_map}
+use Rattle.std.proofs.lemmas.Iterator.Adapters.{serves_from_places}
+use Rattle.std.proofs.lemmas.Iterator.Search.{find_from_yields_List}
+use Rattle.std.specs.List.{All, find}
+use Rattle.std.specs.Option.{MatchOption, option_map}
+use Rattle.std.specs.Simd.{first_chunks}
+use Rattle.plural.specs.Class.{rule_of}
+use Rattle.plural.specs.Rules.{Rule, fits, rules_in, class_in}
+use Rattle.plural.proofs.Ruled.{passed, passed_moduli}
+use Rattle.plural.proofs.Classed.{rules_chunks, class_found, words_at}
 use Rattle.plural.proofs.locale.Locale.class.Goals as goal
-use Rattle.plural.proofs.locale.Locale.class.Goals.{In-Some}
 
--- the rule is the next six numbers, and the rest what stands behind them
-cut : (c : In-Some) → (6 ≤ length c.loop-rule.left.now) × (c.in-Some.rule.now ≡ take 6 c.loop-rule.left.now) × (c.in-Some.rest.now ≡ drop 6 c.loop-rule.left.now)
-cut c = let e = c.in-Some.ensures.cases in (omega arith, cc, cc)
+-- the rules are the chunks
+chunks : (rs : List ℕ) (cs : List (List ℕ)) → cs ≡ first_chunks 6 (length rs / 6) rs → map rule_of cs ≡ rules_in rs
+chunks rs cs e = ap (λ (cs : List (List ℕ)). map rule_of cs) e ∙ sym (rules_chunks rs)
 
-pub loop-rule-init : goal.loop-rule-init
-loop-rule-init c = (moduli_passed c.args.self.now.rules.now c.args.self.now.well, refl)
+by_class : (n k : ℕ) (rs : List ℕ) (o : Option Rule) → option_map (λ (r : Rule). r) o ≡ find (λ (r : Rule). fits r n) (rules_in rs) → MatchOption o (k ≡ 5) (λ r. k ≡ r.class) → k ≡ class_in rs n
+unfolding class_in
+by_class n k rs None q h = class_found n k (rules_in rs) None q h
+by_class n k rs (Some r) q h = class_found n k (rules_in rs) (Some r) q h
 
-pub fits-requires : goal.fits-requires
-fits-requires c = moduli_first c.loop-rule.left.now c.in-Some.rule.now (cut c).0 (cut c).1 c.loop-rule.invariant.0
-
-pub returns-then-fits : goal.returns-then-fits
-returns-then-fits c =
-    let rs : List ℕ = c.args.self.now.rules.now in
-    let e = cut (goal.at.returns-then-fits c).In-Some in
-    let v = class_here c.loop-rule.left.now c.in-Some.rule.now c.args.n e.0 e.1 c.if-fits.ensures ∙ c.loop-rule.invariant.1 in
-    record { value = v; first = words_at rs c.args.n _ v; six = omega (arith, v, passed rs c.args.self.now.well c.args.n) }
-
-pub loop-rule-preserved : goal.loop-rule-preserved
-loop-rule-preserved c =
-    let left : List ℕ = c.loop-rule.left.now in
-    let e = cut (goal.at.loop-rule-preserved c).In-Some in (
-      moduli_later left c.in-Some.rest.now e.0 e.2 c.loop-rule.invariant.0,
-      class_later left c.in-Some.rule.now c.in-Some.rest.now c.args.n e.0 e.1 e.2 c.if-fits.ensures ∙ c.loop-rule.invariant.1,
-    )
+pub find-requires-clause-callable : goal.find-requires-clause-callable
+find-requires-clause-callable c =
+    serves_from_places (YieldsList-from_map _ rule_of (YieldsList-from_slice c.as_chunks.result.0.now cc) c.map.ensures.closure (λ x r q k. search (rules, tests)))
+    (λ x q k. search (rules, tests))
+    (λ x k l e.
+    let moduli = subst (All (λ (r : Rule). 0 < r.modulus)) (sym (chunks c.args.self.now.rules.now c.as_chunks.result.0.now c.as_chunks.ensures.front)) (passed_moduli c.args.self.now.rules.now c.args.self.now.well) in
+    let positive : 0 < x.modulus = subst (λ (r : Rule). 0 < r.modulus) (sym e) (moduli k x l) in search rules)
 
 pub returns : goal.returns
 returns c =
-    let v = sym (class_off c.loop-rule.left.now c.args.n c.in_default.ensures.cases) ∙ c.loop-rule.invariant.1 in
-    record { value = v; first = words_at c.args.self.now.rules.now c.args.n 5 v; six = omega arith }
+    let rs : List ℕ = c.args.self.now.rules.now in
+    let all = chunks rs c.as_chunks.result.0.now c.as_chunks.ensures.front in
+    let found = find_from_yields_List (λ (r : Rule). fits r c.args.n) _ _ c.find.result c.find.ensures.ran (YieldsList-from_map _ rule_of (YieldsList-from_slice c.as_chunks.result.0.now cc) c.map.ensures.closure (λ x r q k. search (rules, tests))) (λ x b q k. search (rules, tests)) in
+    let value = by_class c.args.n c.map_or.result rs c.find.result (found ∙ ap (λ (qs : List Rule). find (λ (r : Rule). fits r c.args.n) qs) all) (search rules) in
+    record { value = value; first = words_at rs c.args.n c.map_or.result value; six = omega (arith, value, passed rs c.args.self.now.well c.args.n) }

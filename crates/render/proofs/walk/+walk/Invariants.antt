@@ -1,0 +1,4 @@
+use Rattle.render.proofs.walk.+walk.Given as goal
+
+abbrev pub decreases-walk : goal.decreases-walk
+decreases-walk g l = l.budget

@@ -1,0 +1,2 @@
+-- Lemmas by topic: Flawed on the step at which the verifier stops.
+pub mod Flawed

@@ -1,0 +1,2 @@
+-- What the contracts of `report` cite.
+pub mod Found
