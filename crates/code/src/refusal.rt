@@ -28,7 +28,7 @@ pub enum Refusal {
 }
 
 impl Refusal {
-    // The number by which the entries answer it.
+    // Its number in the format, by which the entries answer it.
     pub fn number(self) -> u64
         ensures { result ≡ number_of self }
     {

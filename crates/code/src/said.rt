@@ -1,4 +1,4 @@
-// What the entries answer.
+// What the entries answer: a fixed form, in which a refusal is its number alone.
 ghost use Rattle.std.specs.Prelude.{◌≡◌};
 ghost use Rattle.code.specs.Refused.{refused_as};
 

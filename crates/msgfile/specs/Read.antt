@@ -1,4 +1,4 @@
--- What reading answers, and what it adds, against what a definition says of the text. Assumes nothing: these are definitions.
+-- What reading answers, against what a definition says of the text. Assumes nothing: these are definitions.
 use Rattle.std.specs.Prelude.{◌≡◌, ℕ, ◌≤◌, List, vec_items, Ok, Err, Result}
 use Rattle.std.specs.declared.vec.Vec.{Vec}
 use Rattle.std.specs.declared.alloc.Global.{Global}

@@ -1,5 +1,6 @@
 -- Text by its bytes: blanks, words, and how long a front of one kind is. Assumes nothing: these are definitions.
-use Rattle.std.specs.Prelude.{◌≡◌, ℕ, suc, ◌+◌, Bool, true, false, cond, not, ◌&&◌, ◌||◌, List, [], ◌∷◌, take, drop, Some, None, Option, ◌==◌, nat_le}
+use Rattle.std.specs.Prelude.{◌≡◌, ℕ, suc, ◌+◌, Bool, true, false, cond, not, ◌&&◌, ◌||◌, List, [], ◌∷◌, ◌++◌, take, drop, Some, None, Option, ◌==◌, nat_le}
+use Rattle.std.specs.Fmt.{decimal}
 use Rattle.std.specs.List.{fold, prefix_len}
 use Rattle.msgfile.specs.declared.position.Position as position
 
@@ -60,6 +61,10 @@ moved_on p b =
 -- the position behind a text
 abbrev pub position_from : position.Position → List ℕ → position.Position
 position_from p bs = fold moved_on p bs
+
+-- a position as it is printed: the line and the column, with a colon between
+abbrev pub shown : position.Position → List ℕ
+shown p = decimal p.line ++ (58 ∷ decimal p.column)
 
 -- the position of the first byte
 abbrev pub start : position.Position

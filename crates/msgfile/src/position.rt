@@ -1,6 +1,6 @@
 // Where a fault is, by line and column.
-ghost use Rattle.std.specs.Prelude.{◌≡◌, ◌+◌, ◌-◌, ◌^◌, ◌<◌, ◌≤◌, length, take};
-ghost use Rattle.msgfile.specs.Text.{moved_on, position_from, start};
+ghost use Rattle.std.specs.Prelude.{◌≡◌, ◌+◌, ◌-◌, ◌^◌, ◌<◌, ◌≤◌, length, take, Some};
+ghost use Rattle.msgfile.specs.Text.{moved_on, position_from, start, shown};
 
 use std::fmt;
 
@@ -35,6 +35,8 @@ impl Position {
 }
 
 impl fmt::Display for Position {
+    ghost output = { λ position. Some (shown position) };
+
     fn fmt<W: fmt::Write>(&self, f: &mut fmt::Formatter<W>) -> fmt::Result {
         write!(f, "{}:{}", self.line, self.column)
     }

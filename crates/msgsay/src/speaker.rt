@@ -28,6 +28,7 @@ impl Speaker<'_> {
             Some(kind) => Kind::try_from(*kind).unwrap_or(Kind::Text),
             None => Kind::Text,
         };
+        // By a match and no `?`, since it is told which thing it was.
         match things.thing(kind, word) {
             Ok(()) => Ok(()),
             Err(TellError::NoNumber) => Err(Fault::NoNumber(at).into()),

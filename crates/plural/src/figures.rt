@@ -1,5 +1,5 @@
 // Numbers in figures, without noughts in front.
-ghost use Rattle.std.specs.Prelude.{◌≡◌, [], ◌∷◌, length};
+ghost use Rattle.std.specs.Prelude.{◌≡◌, ◌≤◌, [], ◌∷◌, length};
 ghost use Rattle.plural.specs.Figures.{figures, figures_on, number_in};
 
 use std::marker::Model;
@@ -26,7 +26,8 @@ impl Figures {
     pub const MOST: usize = 20;
 
     pub fn new(n: u64) -> Figures
-        ensures { result ≡ figures n }
+        ensures value { result ≡ figures n }
+        ensures most { length result ≤ 20 }
     {
         let start = Self::MOST - figures_len(n);
         let mut digits = [b'0'; Self::MOST];

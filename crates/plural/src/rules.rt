@@ -43,7 +43,7 @@ impl<'a> Locale<'a> {
     }
 }
 
-// Whether a rule is whole, with a modulus of at least 1 and a class of at most 5.
+// Whether a rule is whole, with a modulus of at least 1 and a class of at most 5. (`1..` isn't read in a slice pattern.)
 fn is_well(rule: &[u64]) -> bool
     ensures { result ≡ is_well rule.now }
 {

@@ -31,6 +31,7 @@ impl<'t, 'l> Args<'t, 'l> {
     {
         let things = self.things;
         let [kind, first, len] = things[i];
+        // As it is lent: 1 for a number, and else 0.
         if kind == 1 {
             Arg::Number(first)
         } else {

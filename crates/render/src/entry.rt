@@ -26,7 +26,7 @@ pub fn render(
     render_within(message, locale, told, budget, room)
 }
 
-// Says all that is lent, checked first: the first refusal that applies, with its place, changes nothing.
+// Says all that is lent, checked first: the first refusal that applies, with its place, changes nothing. It is lent what `say` is, whose signature is fixed.
 pub fn try_say<'a>(
     code: &'a [u8],
     kinds: &'a [u8],

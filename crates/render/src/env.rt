@@ -2,7 +2,7 @@
 use crate::args::Args;
 use plural::Locale;
 
-#[derive(Clone, Copy)]
+#[derive(Clone, Copy, Debug)]
 pub(crate) struct Env<'r, 't, 'l> {
     pub(crate) locale: Locale<'r>,
     pub(crate) args: Args<'t, 'l>,

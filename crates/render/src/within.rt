@@ -9,10 +9,7 @@ ghost use Rattle.render.specs.View.{env_in};
 ghost use Rattle.render.specs.Saying.{SaidWithin, ToldExactly};
 
 use crate::answer::Answer;
-use crate::args::Args;
-use crate::env::Env;
-use crate::length::length;
-use crate::put::put;
+use crate::saying::Saying;
 use crate::told::Told;
 use code::Refusal;
 use plural::Locale;
@@ -29,17 +26,13 @@ pub fn render_within(
     ensures answer { SaidWithin (told_fault told.entry.letters.now told.entry.things.now (kinds_of message.now)) (run decode budget (env_in (rules_of locale.now) told.entry.letters.now told.entry.things.now) (going (code_of message.now) [])) room.old room.new result }
     ensures exactly { ToldExactly told.entry.letters.now told.entry.things.now (kinds_of message.now) result }
 {
-    let env = Env {
-        locale: *locale,
-        args: Args::try_new(told, message.kinds())?,
-    };
-    let code = message.code();
-    let Some(len) = length(code, &env, budget) else {
+    let saying = Saying::new(message, locale, told)?;
+    let Some(len) = saying.length(budget) else {
         return Ok(Answer::Unfinished);
     };
     if len > room.len() as u64 {
         return Ok(Answer::Short(len));
     }
-    put(code, &env, room);
+    saying.put(room);
     Ok(Answer::Spoken(len))
 }

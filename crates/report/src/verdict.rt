@@ -23,7 +23,7 @@ impl Verdict {
             Ok(()) => Verdict::Good,
             Err(Refusal::Step(at)) => match explain(code, kinds, at) {
                 Some(flaw) => Verdict::Bad(at, flaw),
-                None => unreachable(),
+                None => unreachable!(),
             },
             Err(refusal) => Verdict::Refused(refusal),
         }

@@ -5,23 +5,19 @@ use plural::read_figures;
 use std::test::Fail;
 
 #[test]
-fn told_and_code(rt: HostRuntime) -> Result<(), Fail> {
-    let Ok(source) = read_message(
+fn told_and_code(rt: HostRuntime) -> Result<(), ReadError> {
+    let source = read_message(
         rt.alloc(),
         b"# boats\ntold name text, count number # two\n 2 0\t255 # bytes\n7",
-    ) else {
-        return Err(Fail::new("it can't be read"));
-    };
+    )?;
     assert!(rt; source.kinds.as_slice() == [0, 1].as_slice());
     assert!(rt; source.code.as_slice() == [2, 0, 255, 7].as_slice());
     Ok(())
 }
 
 #[test]
-fn nothing_told(rt: HostRuntime) -> Result<(), Fail> {
-    let Ok(source) = read_message(rt.alloc(), b"told# nothing\n0") else {
-        return Err(Fail::new("it can't be read"));
-    };
+fn nothing_told(rt: HostRuntime) -> Result<(), ReadError> {
+    let source = read_message(rt.alloc(), b"told# nothing\n0")?;
     assert!(rt; source.kinds.is_empty() && source.code.as_slice() == [0].as_slice());
     Ok(())
 }
@@ -60,17 +56,26 @@ fn faults(rt: HostRuntime) {
 }
 
 #[test]
-fn fault_in_words(rt: HostRuntime) -> Result<(), Fail> {
-    let Some((expected, position)) = fault(&rt, b"\ntold a text b text\n0") else {
-        return Err(Fail::new("it can be read"));
+fn faults_in_words(rt: HostRuntime) -> Result<(), Fail> {
+    let position = Position {
+        line: 2,
+        column: 13,
     };
-    let words = format!(in rt.alloc(); "{position}: {expected}")?;
-    assert!(rt; words.as_str() == "2:13: expected a comma or the end of the line");
+    let number = Expected::Number;
+    let name = Expected::Name;
+    let kind = Expected::Kind;
+    let comma = Expected::Comma;
+    let fewer = Expected::Fewer;
+    let words = format!(in rt.alloc(); "{position}: {number}; {name}; {kind}; {comma}; {fewer}")?;
+    assert!(rt;
+        words.as_str()
+            == "2:13: expected a number from 0 to 255; expected the name of a thing told; expected `text` or `number` behind the name; expected a comma or the end of the line; expected fewer things: at most 256 are read, and a message is told at most 16"
+    );
     Ok(())
 }
 
 #[test]
-fn things_told(rt: HostRuntime) -> Result<(), Fail> {
+fn things_told(rt: HostRuntime) -> Result<(), TellError> {
     let mut things = Things::new(rt.alloc());
     things.thing(Kind::Text, b"Ida")?;
     things.thing(Kind::Number, b"007")?;

@@ -9,7 +9,7 @@ ghost use Rattle.verifier.specs.Verdict.{flaw_of, limit_fault};
 use crate::flaw::Flaw;
 use code::{Code, Kind, Refusal, Step};
 
-#[derive(Clone, Copy)]
+#[derive(Clone, Copy, Debug)]
 pub(crate) struct Unchecked<'c, 'k> {
     pub(crate) code: Code<'c>,
     pub(crate) kinds: &'k [u8],
@@ -52,7 +52,7 @@ impl<'c> Unchecked<'c, '_> {
         }
     }
 
-    // Goes on to the first step that isn't good, or to the end of the code.
+    // Goes on to the first step that isn't good, or to the end of the code: by recursion on what is left, which is compiled to a loop.
     pub(crate) fn scan(&mut self)
         ensures { bad_at decode zero self.old.kinds.now self.old.code.bytes.now + length self.new.code.bytes.now ≡ length self.old.code.bytes.now }
     {

@@ -1,4 +1,4 @@
-use Rattle.render.proofs.walk.+walk.Given as goal
+use Rattle.render.proofs.saying.Saying.+walk.Given as goal
 
 abbrev pub decreases-walk : goal.decreases-walk
 decreases-walk g l = l.budget
