@@ -95,7 +95,7 @@ module _ (read : List ℕ → Step) where
   pub not_too_long :
       Reads 0 read → (b : ℕ) (r out : List ℕ) (e : Env) (m : ℕ) (u : List ℕ) → 1 ≤ m → ((i : ℕ) → i < length e.arguments → length (shown e i) ≤ m) → run read b e (going r out) ≡ done u → length u ≤ length out + length r * m
   unfolding run next
-  not_too_long law zero r out e m u l short q = let z : ◌≡◌ {A = ℕ} 0 1 = cc in absurd (omega arith)
+  not_too_long law zero r out e m u l short q = cc
   not_too_long law (suc b) r out e m u l short q = go (λ r₁ o v. not_too_long law b r₁ o e m u l short v) (step read e r o₁) (stepped e r o₁) q
     where
       o₁ : List ℕ
@@ -114,7 +114,7 @@ module _ (read : List ℕ → Step) where
           let x = run_done b e o in
           let same : o ≡ u = cc in
           omega (arith, long w.0, ap length w.2, ap length same, mul-le-mul_right {m = size (read r)} {n = length r} m (omega arith))
-      go ih stuck w q = let x = run_stuck b e in let z : ◌≡◌ {A = ℕ} 0 1 = cc in absurd (omega arith)
+      go ih stuck w q = let x = run_stuck b e in cc
 
   step_alike : (e f : Env) → Alike e f → (r out : List ℕ) → step read e r out ≡ step read f r out
   unfolding step

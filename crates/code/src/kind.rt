@@ -2,8 +2,7 @@
 ghost use Rattle.std.specs.Prelude.{◌≡◌};
 ghost use Rattle.code.specs.Kinds.{number_of_kind, Reads};
 
-use std::error::Error;
-use std::fmt;
+use thiserror::Error;
 
 #[derive(Clone, Copy, Debug, PartialEq, Eq)]
 pub enum Kind {
@@ -12,7 +11,8 @@ pub enum Kind {
 }
 
 // A byte that is no kind.
-#[derive(Clone, Copy, Debug, PartialEq, Eq)]
+#[derive(Clone, Copy, Debug, PartialEq, Eq, Error)]
+#[error("{0} is neither 0, a text, nor 1, a number")]
 pub struct UnknownKind(pub u8);
 
 impl TryFrom<u8> for Kind {
@@ -39,11 +39,3 @@ impl From<Kind> for u8 {
         }
     }
 }
-
-impl fmt::Display for UnknownKind {
-    fn fmt<W: fmt::Write>(&self, f: &mut fmt::Formatter<W>) -> fmt::Result {
-        write!(f, "{} is neither 0, a text, nor 1, a number", self.0)
-    }
-}
-
-impl Error for UnknownKind {}

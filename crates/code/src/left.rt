@@ -16,7 +16,7 @@ impl<'a> Code<'a> {
     // The most things that a message is told.
     pub const MAX_ARGUMENTS: usize = 16;
 
-    // The step that begins here. The letters are cut by index: by `get` of the rest a check of long code took a third longer.
+    // The step that begins here. The letters are cut by index: by `get`, or by a range of the rest, a check of long code took a third longer.
     pub fn step(self) -> Step<'a>
         ensures step { seen result ≡ decode self.entry.bytes.now }
         ensures within { Within self.entry.bytes.now result }

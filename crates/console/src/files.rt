@@ -28,9 +28,8 @@ impl Console<'_> {
         match self.read_file(path) {
             Ok(text) => Ok(Some(text)),
             Err(error) => {
-                let program = self.program;
                 let name = name_of(path);
-                eprintln!(self.rt; "{program}: {name}: {error}")?;
+                self.tell(&format_args!("{name}: {error}"))?;
                 Ok(None)
             }
         }
@@ -41,10 +40,9 @@ impl Console<'_> {
         let ReadError::Wrong(expected, left) = error else {
             return Err(AllocError.into());
         };
-        let program = self.program;
         let name = name_of(path);
         let position = position_of(text, left);
-        eprintln!(self.rt; "{program}: {name}:{position}: {expected}")
+        self.tell(&format_args!("{name}:{position}: {expected}"))
     }
 
     // The message of a file, if it can be read.

@@ -23,7 +23,7 @@ impl Console<'_> {
     // Tells how the program was called wrongly, and where its use is told.
     pub fn tell_misuse(&self, misuse: Misuse) -> io::Result<()> {
         let program = self.program;
-        eprintln!(self.rt; "{program}: {misuse}; see {program} --help")
+        self.tell(&format_args!("{misuse}; see {program} --help"))
     }
 
     // Tells a refusal; the label says of what.
@@ -32,8 +32,7 @@ impl Console<'_> {
         label: &str,
         refused: &Refused<W>,
     ) -> io::Result<()> {
-        let program = self.program;
-        eprintln!(self.rt; "{program}: {label}{refused}")
+        self.tell(&format_args!("{label}{refused}"))
     }
 
     // Tells why a message is refused: of a step that isn't good, what is wrong with it.

@@ -9,32 +9,32 @@ use crate::words::{skip_comments, split_line, split_word};
 use std::alloc::Global;
 
 // Behind the word `told`: its line, and then the code.
-fn read_rest(heap: Global, text: &[u8]) -> Result<Source, ReadError>
+fn read_rest(alloc: Global, text: &[u8]) -> Result<Source, ReadError>
     ensures { FileRead result (told_then text.now) }
 {
     let (line, rest) = split_line(text);
-    let kinds = read_told(heap, line).map_err(|error| error.further(rest.len()))?;
-    let code = read_numbers(heap, rest)?;
+    let kinds = read_told(alloc, line).map_err(|error| error.further(rest.len()))?;
+    let code = read_numbers(alloc, rest)?;
     Ok(Source { kinds, code })
 }
 
 // Behind spaces and comments: what is told, if anything is, and then the code.
-fn read_body(heap: Global, text: &[u8]) -> Result<Source, ReadError>
+fn read_body(alloc: Global, text: &[u8]) -> Result<Source, ReadError>
     ensures { FileRead result (body_in text.now) }
 {
     let (word, rest) = split_word(text);
     if word == b"told".as_slice() {
-        return read_rest(heap, rest);
+        return read_rest(alloc, rest);
     }
     Ok(Source {
-        kinds: Vec::new(heap),
-        code: read_numbers(heap, text)?,
+        kinds: Vec::new(alloc),
+        code: read_numbers(alloc, text)?,
     })
 }
 
 // Reads a message file.
-pub fn read_message(heap: Global, text: &[u8]) -> Result<Source, ReadError>
+pub fn read_message(alloc: Global, text: &[u8]) -> Result<Source, ReadError>
     ensures { FileRead result (message_in text.now) }
 {
-    read_body(heap, skip_comments(text))
+    read_body(alloc, skip_comments(text))
 }

@@ -47,11 +47,11 @@ impl Place {
 
 // The numbers of a text.
 #[tactic(auto, using(crate::proofs::Reading::numbers_more, crate::proofs::Reading::numbers_stop, crate::proofs::Reading::numbers_end))]
-pub(crate) fn read_numbers(heap: Global, text: &[u8]) -> Result<Vec<u8>, ReadError>
+pub(crate) fn read_numbers(alloc: Global, text: &[u8]) -> Result<Vec<u8>, ReadError>
     ensures numbers { Reads result (as_numbers (numbers_in text.now)) }
     ensures within { LeftWithin (length text.now) result }
 {
-    let mut code = Vec::new(heap);
+    let mut code = Vec::new(alloc);
     let mut place = Place::Between;
     for (at, byte) in text.iter().enumerate() {
         let Some(next) = place.feed(*byte) else {

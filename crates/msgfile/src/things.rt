@@ -27,7 +27,7 @@ impl From<AllocError> for TellError {
 // What was told so far.
 #[derive(Debug, Drop)]
 pub struct Things {
-    // Three numbers for each thing, as the renderer reads them.
+    // Three numbers for each thing, in a row, as the entries are lent them, whose form is fixed.
     pub told: Vec<u64>,
     // The letters of all texts.
     pub letters: Vec<u8>,
@@ -45,7 +45,7 @@ impl Things {
     }
 
     // How many things were told.
-    pub fn len(&self) -> usize
+    pub fn count(&self) -> usize
         ensures { result ≡ length self.now.told.items / 3 }
     {
         self.told.len() / 3

@@ -41,11 +41,11 @@ fn split_thing(text: &[u8]) -> Result<(Kind, &[u8]), ReadError>
 
 // The kinds of all things of a line.
 #[tactic(auto, using(crate::proofs::Telling::things_none, crate::proofs::Telling::thing_last))]
-fn read_things(heap: Global, line: &[u8]) -> Result<Vec<u8>, ReadError>
+fn read_things(alloc: Global, line: &[u8]) -> Result<Vec<u8>, ReadError>
     ensures told { Reads result (things_in MAX_THINGS line.now) }
     ensures within { LeftWithin (length line.now) result }
 {
-    let mut kinds = Vec::new(heap);
+    let mut kinds = Vec::new(alloc);
     let mut left = line;
     for _ in 0..MAX_THINGS {
         let (kind, rest) = split_thing(left)?;
@@ -60,12 +60,12 @@ fn read_things(heap: Global, line: &[u8]) -> Result<Vec<u8>, ReadError>
 }
 
 // The kinds that a line tells; it may tell nothing.
-pub(crate) fn read_told(heap: Global, line: &[u8]) -> Result<Vec<u8>, ReadError>
+pub(crate) fn read_told(alloc: Global, line: &[u8]) -> Result<Vec<u8>, ReadError>
     ensures told { Reads result (told_in line.now) }
     ensures within { LeftWithin (length line.now) result }
 {
     if unblanked(line).is_empty() {
-        return Ok(Vec::new(heap));
+        return Ok(Vec::new(alloc));
     }
-    read_things(heap, line)
+    read_things(alloc, line)
 }

@@ -7,8 +7,8 @@ use thiserror::Error;
 
 #[derive(Clone, Copy, Debug, PartialEq, Eq, Error)]
 pub(crate) enum Fault {
-    #[error("{0}")]
-    Refused(Refusal),
+    #[error(transparent)]
+    Refused(#[from] Refusal),
     #[error("thing {0} is a number, and isn't told in figures of one below 2^64")]
     NoNumber(usize),
     #[error("things told: {told}, asked for: {asked}")]
@@ -36,27 +36,17 @@ impl From<Fault> for Refused<Fault> {
 }
 
 // Why a sentence wasn't said: it can't be, or memory or a stream failed.
-#[derive(Debug, Drop)]
+#[derive(Debug, Drop, Error)]
 pub(crate) enum Unsaid {
-    Fault(Fault),
-    Failed(io::Error),
-}
-
-impl From<Fault> for Unsaid {
-    fn from(fault: Fault) -> Unsaid {
-        Unsaid::Fault(fault)
-    }
+    #[error(transparent)]
+    Fault(#[from] Fault),
+    #[error(transparent)]
+    Failed(#[from] io::Error),
 }
 
 impl From<Refusal> for Unsaid {
     fn from(refusal: Refusal) -> Unsaid {
-        Unsaid::Fault(Fault::Refused(refusal))
-    }
-}
-
-impl From<io::Error> for Unsaid {
-    fn from(error: io::Error) -> Unsaid {
-        Unsaid::Failed(error)
+        Unsaid::Fault(refusal.into())
     }
 }
 

@@ -47,8 +47,7 @@ fn say_source(
             return Ok(false);
         }
     };
-    let rules = [0; 0];
-    let locale = Locale::new(&rules);
+    let locale = Locale::new(&[]);
     let speaker = Speaker {
         console,
         message: &message,

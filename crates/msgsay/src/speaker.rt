@@ -23,7 +23,7 @@ pub(crate) struct Speaker<'a> {
 impl Speaker<'_> {
     // One thing more: a number if that is its kind, and else a text.
     fn tell(&self, things: &mut Things, word: &[u8]) -> Result<(), Unsaid> {
-        let at = things.len();
+        let at = things.count();
         let kind = match self.message.kinds().get(at) {
             Some(kind) => Kind::try_from(*kind).unwrap_or(Kind::Text),
             None => Kind::Text,
@@ -39,8 +39,7 @@ impl Speaker<'_> {
     // Puts the sentence of what is told into a room of its own length, and prints it.
     fn speak(&self, told: Told) -> Result<(), Unsaid> {
         let rt = self.console.rt;
-        let mut none = [0; 0];
-        let len = match render(self.message, self.locale, told, &mut none)? {
+        let len = match render(self.message, self.locale, told, &mut [])? {
             Answer::Spoken(len) | Answer::Short(len) => len,
             Answer::Unfinished => unreachable!(),
         };
@@ -60,7 +59,7 @@ impl Speaker<'_> {
         for word in words {
             self.tell(&mut things, word)?;
         }
-        let told = things.len();
+        let told = things.count();
         let asked = self.message.kinds().len();
         if told != asked {
             return Err(Fault::Count { told, asked }.into());

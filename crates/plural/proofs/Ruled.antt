@@ -58,13 +58,6 @@ pub record Tested (rules : List ℕ) (count : ℕ) (left : List ℕ) : Type 0 wh
   pub few : count ≤ 20
   pub same : further count (wrong_rule (20 - count) left) ≡ wrong_rule 20 rules
 
-pub none_tested : (rules left : List ℕ) (count : ℕ) → count ≡ 0 → left ≡ rules → Tested rules count left
-none_tested rules left count z e = record { few = omega arith; same = rw (z, e) (go (wrong_rule 20 rules)) }
-  where
-    go : (o : Option ℕ) → further 0 o ≡ o
-    go None = refl
-    go (Some k) = ap Some (omega arith)
-
 -- the next one
 module _ (rules chunk left rest : List ℕ) (count : ℕ) (t : Tested rules count left) (e : left ≡ chunk ++ rest) (l : length chunk ≡ min 6 (length left)) (some : 0 < length left) where
   pub one_many : count ≡ 20 → wrong_rule 20 rules ≡ Some count
@@ -119,17 +112,17 @@ module _ (n a b c d e f : ℕ) (rs : List ℕ) where
 pub well_all : (n : ℕ) (rs : List ℕ) → wrong_rule n rs ≡ None → (i : ℕ) → 6 * i < length rs → RuleWell n rs i
 unfolding wrong_rule
 well_all n [] q i l = absurd (omega arith)
-well_all zero (a ∷ rs) q i l = let z : ◌≡◌ {A = ℕ} 0 1 = cc in absurd (omega arith)
-well_all (suc n) (a ∷ []) q i l = let z : ◌≡◌ {A = ℕ} 0 1 = cc in absurd (omega arith)
-well_all (suc n) (a ∷ b ∷ []) q i l = let z : ◌≡◌ {A = ℕ} 0 1 = cc in absurd (omega arith)
-well_all (suc n) (a ∷ b ∷ c ∷ []) q i l = let z : ◌≡◌ {A = ℕ} 0 1 = cc in absurd (omega arith)
-well_all (suc n) (a ∷ b ∷ c ∷ d ∷ []) q i l = let z : ◌≡◌ {A = ℕ} 0 1 = cc in absurd (omega arith)
-well_all (suc n) (a ∷ b ∷ c ∷ d ∷ e ∷ []) q i l = let z : ◌≡◌ {A = ℕ} 0 1 = cc in absurd (omega arith)
+well_all zero (a ∷ rs) q i l = cc
+well_all (suc n) (a ∷ []) q i l = cc
+well_all (suc n) (a ∷ b ∷ []) q i l = cc
+well_all (suc n) (a ∷ b ∷ c ∷ []) q i l = cc
+well_all (suc n) (a ∷ b ∷ c ∷ d ∷ []) q i l = cc
+well_all (suc n) (a ∷ b ∷ c ∷ d ∷ e ∷ []) q i l = cc
 well_all (suc n) (a ∷ b ∷ c ∷ d ∷ e ∷ f ∷ rs) q i l = go (λ h j m. well_all n rs h j m) (leb 1 a && leb f 5) refl (wrong_rule n rs) refl q i l
   where
     go : (wrong_rule n rs ≡ None → (j : ℕ) → 6 * j < length rs → RuleWell n rs j) → (t : Bool) → (leb 1 a && leb f 5) ≡ t → (o : Option ℕ) → wrong_rule n rs ≡ o → cond t (later o) (Some 0) ≡ None → (i : ℕ) → 6 * i < length (a ∷ b ∷ c ∷ d ∷ e ∷ f ∷ rs) → RuleWell (suc n) (a ∷ b ∷ c ∷ d ∷ e ∷ f ∷ rs) i
-    go ih false t o h q i l = let z : ◌≡◌ {A = ℕ} 0 1 = cc in absurd (omega arith)
-    go ih true t (Some k) h q i l = let z : ◌≡◌ {A = ℕ} 0 1 = cc in absurd (omega arith)
+    go ih false t o h q i l = cc
+    go ih true t (Some k) h q i l = cc
     go ih true t None h q zero l = let p = and_parts (leb 1 a) (leb f 5) t in first_well n a b c d e f rs (leb-true 1 a p.0) (leb-true f 5 p.1)
     go ih true t None h q (suc j) l = later_well n a b c d e f rs j (ih h j (omega arith))
 
@@ -142,7 +135,7 @@ wrong_now n rs k l bad q = let e : 0 ≡ k = cc in subst (WrongAt n rs) e (omega
 
 pub wrong_words : (n : ℕ) (rs : List ℕ) (k : ℕ) → wrong_rule n rs ≡ Some k → WrongAt n rs k
 unfolding wrong_rule
-wrong_words n [] k q = let z : ◌≡◌ {A = ℕ} 0 1 = cc in absurd (omega arith)
+wrong_words n [] k q = cc
 wrong_words zero (a ∷ rs) k q = wrong_now zero (a ∷ rs) k (omega arith) (λ w. omega (arith, w.few)) q
 wrong_words (suc n) (a ∷ []) k q = wrong_now (suc n) (a ∷ []) k (omega arith) (λ w. omega (arith, w.whole)) q
 wrong_words (suc n) (a ∷ b ∷ []) k q = wrong_now (suc n) (a ∷ b ∷ []) k (omega arith) (λ w. omega (arith, w.whole)) q
@@ -155,7 +148,7 @@ wrong_words (suc n) (a ∷ b ∷ c ∷ d ∷ e ∷ f ∷ rs) k q = go (λ j h. w
     go ih false t o h q =
         wrong_now (suc n) (a ∷ b ∷ c ∷ d ∷ e ∷ f ∷ rs) k (omega arith)
         (λ w. true≢false (sym (and_from (leb 1 a) (leb f 5) (le-leb 1 a w.modulus) (le-leb f 5 w.class)) ∙ t)) q
-    go ih true t None h q = let z : ◌≡◌ {A = ℕ} 0 1 = cc in absurd (omega arith)
+    go ih true t None h q = cc
     go ih true t (Some j) h q =
         let same : suc j ≡ k = cc in
         let w = ih j h in
@@ -177,12 +170,12 @@ module _ (P : Rule → Type 0) (well : (r : Rule) → 1 ≤ r.modulus → r.clas
   each_passed m (a ∷ b ∷ c ∷ []) q k o l = absurd (omega arith)
   each_passed m (a ∷ b ∷ c ∷ d ∷ []) q k o l = absurd (omega arith)
   each_passed m (a ∷ b ∷ c ∷ d ∷ e ∷ []) q k o l = absurd (omega arith)
-  each_passed zero (a ∷ b ∷ c ∷ d ∷ e ∷ f ∷ rs) q k o l = let z : ◌≡◌ {A = ℕ} 0 1 = cc in absurd (omega arith)
+  each_passed zero (a ∷ b ∷ c ∷ d ∷ e ∷ f ∷ rs) q k o l = cc
   each_passed (suc m) (a ∷ b ∷ c ∷ d ∷ e ∷ f ∷ rs) q k o l = go (λ h. each_passed m rs h) (leb 1 a && leb f 5) refl (wrong_rule m rs) refl q k o l
     where
       go : (wrong_rule m rs ≡ None → All P (rules_in rs)) → (t : Bool) → (leb 1 a && leb f 5) ≡ t → (w : Option ℕ) → wrong_rule m rs ≡ w → cond t (later w) (Some 0) ≡ None → All P (record { modulus = a; left_from = b; left_to = c; from = d; to = e; class = f } ∷ rules_in rs)
-      go ih false t w h q k o l = let z : ◌≡◌ {A = ℕ} 0 1 = cc in absurd (omega arith)
-      go ih true t (Some j) h q k o l = let z : ◌≡◌ {A = ℕ} 0 1 = cc in absurd (omega arith)
+      go ih false t w h q k o l = cc
+      go ih true t (Some j) h q k o l = cc
       go ih true t None h q zero o l = let p = and_parts (leb 1 a) (leb f 5) t in well (record { modulus = a; left_from = b; left_to = c; from = d; to = e; class = f }) (leb-true 1 a p.0) (leb-true f 5 p.1)
       go ih true t None h q (suc k) o l = ih h k o (omega arith)
 
@@ -203,9 +196,6 @@ none_is (Some k) h = absurd (true≢false h)
 pub passed : (rs : List ℕ) → is_some (wrong_rule 20 rs) ≡ false → (n : ℕ) → class_in rs n < 6
 passed rs h n = classes 20 rs (none_is (wrong_rule 20 rs) h) n
 
-pub passed_well : (rs : List ℕ) → is_some (wrong_rule 20 rs) ≡ false → (i : ℕ) → 6 * i < length rs → RuleWell 20 rs i
-passed_well rs h = well_all 20 rs (none_is (wrong_rule 20 rs) h)
-
 pub passed_moduli : (rs : List ℕ) → is_some (wrong_rule 20 rs) ≡ false → All (λ (r : Rule). 0 < r.modulus) (rules_in rs)
 passed_moduli rs h = each_passed (λ (r : Rule). 0 < r.modulus) (λ r a b. a) 20 rs (none_is (wrong_rule 20 rs) h)
 
@@ -214,7 +204,7 @@ no_fault rs = go (wrong_rule 20 rs)
   where
     go : (o : Option ℕ) → rule_refusal o ≡ None → o ≡ None
     go None h = refl
-    go (Some k) h = let z : ◌≡◌ {A = ℕ} 0 1 = cc in absurd (omega arith)
+    go (Some k) h = cc
 
 pub classes_below_six : (rs : List ℕ) → rules_fault rs ≡ None → (n : ℕ) → class_in rs n < 6
 classes_below_six rs h n = classes 20 rs (no_fault rs h) n

@@ -12,10 +12,10 @@ spells : AppendsLastDigit figures_by
 unfolding figures_by
 spells = record { one = λ k n l. ap (λ b. cond b ((48 + n) ∷ []) (figures_by k (n / 10) ++ ((48 + n % 10) ∷ []))) (lt-ltb n 10 l); more = λ k n l. ap (λ b. cond b ((48 + n) ∷ []) (figures_by k (n / 10) ++ ((48 + n % 10) ∷ []))) (le-ltb n 10 l) }
 
-few_decimal : (n : ℕ) → n < 2 ^ 64 → length (decimal n) ≤ 20
+pub few_decimal : (n : ℕ) → n < 2 ^ 64 → length (decimal n) ≤ 20
 few_decimal n l = length-decimal-le 20 n (omega arith) (omega arith) l
 
-figures_is : (n : ℕ) → n < 2 ^ 64 → figures n ≡ decimal n
+pub figures_is : (n : ℕ) → n < 2 ^ 64 → figures n ≡ decimal n
 unfolding figures
 figures_is n l = decimal_from_appends figures_by spells 20 n l (few_decimal n l)
 

@@ -2,6 +2,7 @@
 ghost use Rattle.std.specs.Prelude.{◌≡◌, ◌≤◌, [], ◌∷◌, length};
 ghost use Rattle.plural.specs.Figures.{figures, figures_on, number_in};
 
+use itoa::write_digits;
 use std::marker::Model;
 
 // A number's figures, at the end of a buffer.
@@ -29,14 +30,8 @@ impl Figures {
         ensures value { result ≡ figures n }
         ensures most { length result ≤ 20 }
     {
-        let start = Self::MOST - figures_len(n);
         let mut digits = [b'0'; Self::MOST];
-        let mut rest = n;
-        // By place, since what is written through `iter_mut().rev()` is not known to a proof.
-        for at in (start..Self::MOST).rev() {
-            digits[at] = b'0' + (rest % 10) as u8;
-            rest /= 10;
-        }
+        let start = write_digits(n, &mut digits, Self::MOST);
         Figures { digits, start }
     }
 

@@ -40,6 +40,10 @@ others_on (argument i) ks n o = refl
 others_on (unknown x) ks n o = absurd (false≢true n)
 others_on cut ks n o = absurd (false≢true n)
 
+-- what is left behind a step
+pub behind_step : (r rest : List ℕ) (s : Step) → s ≡ decode r → rest ≡ drop (size (decode r)) r → rest ≡ drop (size s) r
+behind_step r rest s q e = e ∙ sym (ap (λ (k : Step). drop (size k) r) q)
+
 -- good code in an environment of its kinds
 module _ (v : Env) (r : List ℕ) (s : Step) (q : s ≡ decode r) (g : good decode (kinds (values_of v.args)) r ≡ true) where
   pub step_asks : needs s (kinds (values_of v.args)) ≡ true

@@ -1,6 +1,6 @@
 -- Things told that pass are of their kinds and within the letters. Assumes nothing.
 use Rattle.std.proofs.Common.{◌≡◌, ℕ, zero, suc, ◌+◌, ◌-◌, ◌*◌, ◌<◌, ◌≤◌, Bool, true, false, cond, not, ◌&&◌, eqb, ltb, leb, min, map, zip, ◌⊎◌, List, [], ◌∷◌, ◌/◌, length, get_or, take, drop, Some, None, Option, sym, refl, ap, ◌∙◌, subst, ap₂, inl, inr, arith}
-use Rattle.std.proofs.lemmas.Bool.{ltb-true, ltb-false, true≢false, leb-true, eqb-true, le-leb, eq-eqb, ne_eqb, and_parts, and_from, or_cases, or_left, or_right, cases_Bool, leb-false}
+use Rattle.std.proofs.lemmas.Bool.{ltb-true, ltb-false, true≢false, leb-true, eqb-true, le-leb, eq-eqb, ne_eqb, and_parts, and_from, or_cases, or_left, or_right}
 use Rattle.code.specs.Step.{text, number, kind, kinds}
 use Rattle.plural.specs.Rules.{later}
 use Rattle.std.specs.List.{position, position_or_len}
@@ -32,26 +32,6 @@ ok_from ls k a b c q (inr h) =
     (and_from (eqb a 0) _ (eq-eqb a 0 h.0)
     (and_from (leb b (length ls)) _ (le-leb b (length ls) (omega (arith, h.1)))
     (and_from (leb c (length ls - b)) _ (le-leb c (length ls - b) (omega (arith, h.1))) (le-leb c 4294967296 h.2)))))
-
--- the test, exit by exit
-pub not_ok : (ls : List ℕ) (k a b c : ℕ) → (thing_ok ls k a b c ≡ true → ⊥) → false ≡ thing_ok ls k a b c
-not_ok ls k a b c h = elim (cases_Bool (thing_ok ls k a b c)) [ inl q ↦ absurd (h q) | inr q ↦ sym q ]
-
-pub ok_number : (ls : List ℕ) (k a b c : ℕ) → a ≡ k → a ≡ 1 → true ≡ thing_ok ls k a b c
-ok_number ls k a b c q h = sym (ok_from ls k a b c q (inl h))
-
-pub other_kind : (ls : List ℕ) (k a b c : ℕ) → (a ≡ k → ⊥) → false ≡ thing_ok ls k a b c
-other_kind ls k a b c h = not_ok ls k a b c (λ t. h (ok_kind ls k a b c t))
-
-pub outside : (ls : List ℕ) (k a b c : ℕ) → (a ≡ 1 → ⊥) → (a ≡ 0 → b + c ≤ length ls → ⊥) → false ≡ thing_ok ls k a b c
-outside ls k a b c h f = not_ok ls k a b c (λ t. elim (ok_within ls k a b c t) [ inl q ↦ h q | inr q ↦ f q.0 q.1 ])
-
-pub ok_text : (ls : List ℕ) (k a b c : ℕ) → a ≡ k → a ≡ 0 → b + c ≤ length ls → leb c 4294967296 ≡ thing_ok ls k a b c
-ok_text ls k a b c q z l =
-    elim (cases_Bool (leb c 4294967296)) [
-      | inl t ↦ t ∙ sym (ok_from ls k a b c q (inr (z, l, leb-true c 4294967296 t)))
-      | inr t ↦ t ∙ not_ok ls k a b c (λ u. elim (ok_within ls k a b c u) [ inl w ↦ omega arith | inr w ↦ omega (arith, w.2, leb-false c 4294967296 t) ])
-    ]
 
 -- a thing of what is left, and the same one of the whole
 module _ (ls : List ℕ) (a b c : ℕ) (ts : List ℕ) (k : ℕ) (ks : List ℕ) where
@@ -85,15 +65,15 @@ module _ (ls : List ℕ) (a b c : ℕ) (ts : List ℕ) (k : ℕ) (ks : List ℕ)
 pub things_well : (ls ts ks : List ℕ) → wrong_thing ls ts ks ≡ None → ToldWell ls ts ks
 unfolding wrong_thing
 things_well ls [] [] q = (refl, λ i l. absurd (omega arith))
-things_well ls [] (k ∷ ks) q = let z : ◌≡◌ {A = ℕ} 0 1 = cc in absurd (omega arith)
-things_well ls (a ∷ []) ks q = let z : ◌≡◌ {A = ℕ} 0 1 = cc in absurd (omega arith)
-things_well ls (a ∷ b ∷ []) ks q = let z : ◌≡◌ {A = ℕ} 0 1 = cc in absurd (omega arith)
-things_well ls (a ∷ b ∷ c ∷ ts) [] q = let z : ◌≡◌ {A = ℕ} 0 1 = cc in absurd (omega arith)
+things_well ls [] (k ∷ ks) q = cc
+things_well ls (a ∷ []) ks q = cc
+things_well ls (a ∷ b ∷ []) ks q = cc
+things_well ls (a ∷ b ∷ c ∷ ts) [] q = cc
 things_well ls (a ∷ b ∷ c ∷ ts) (k ∷ ks) q = go (λ h. things_well ls ts ks h) (thing_ok ls k a b c) refl (wrong_thing ls ts ks) refl q
   where
     go : (wrong_thing ls ts ks ≡ None → ToldWell ls ts ks) → (t : Bool) → thing_ok ls k a b c ≡ t → (o : Option ℕ) → wrong_thing ls ts ks ≡ o → cond t (later o) (Some 0) ≡ None → ToldWell ls (a ∷ b ∷ c ∷ ts) (k ∷ ks)
-    go ih false t o h q = let z : ◌≡◌ {A = ℕ} 0 1 = cc in absurd (omega arith)
-    go ih true t (Some j) h q = let z : ◌≡◌ {A = ℕ} 0 1 = cc in absurd (omega arith)
+    go ih false t o h q = cc
+    go ih true t (Some j) h q = cc
     go ih true t None h q = let w = ih h in (omega (arith, w.0), λ i l. each t w.1 i l)
       where
         each : thing_ok ls k a b c ≡ true → ((i : ℕ) → i < length ks → ThingWell ls ts ks i) → (i : ℕ) → i < length (k ∷ ks) → ThingWell ls (a ∷ b ∷ c ∷ ts) (k ∷ ks) i
@@ -109,7 +89,7 @@ wrong_now ls ts ks n l bad q = let e : 0 ≡ n = cc in subst (WrongAt ls ts ks) 
 
 pub things_wrong : (ls ts ks : List ℕ) (n : ℕ) → wrong_thing ls ts ks ≡ Some n → WrongAt ls ts ks n
 unfolding wrong_thing
-things_wrong ls [] [] n q = let z : ◌≡◌ {A = ℕ} 0 1 = cc in absurd (omega arith)
+things_wrong ls [] [] n q = cc
 things_wrong ls [] (k ∷ ks) n q = wrong_now ls [] (k ∷ ks) n (inl (omega arith)) (λ w. omega (arith, w.whole)) q
 things_wrong ls (a ∷ []) ks n q = wrong_now ls (a ∷ []) ks n (inr (omega arith)) (λ w. omega (arith, w.whole)) q
 things_wrong ls (a ∷ b ∷ []) ks n q = wrong_now ls (a ∷ b ∷ []) ks n (inr (omega arith)) (λ w. omega (arith, w.whole)) q
@@ -118,7 +98,7 @@ things_wrong ls (a ∷ b ∷ c ∷ ts) (k ∷ ks) n q = go (λ j h. things_wrong
   where
     go : ((j : ℕ) → wrong_thing ls ts ks ≡ Some j → WrongAt ls ts ks j) → (t : Bool) → thing_ok ls k a b c ≡ t → (o : Option ℕ) → wrong_thing ls ts ks ≡ o → cond t (later o) (Some 0) ≡ Some n → WrongAt ls (a ∷ b ∷ c ∷ ts) (k ∷ ks) n
     go ih false t o h q = wrong_now ls (a ∷ b ∷ c ∷ ts) (k ∷ ks) n (inl (omega arith)) (λ w. true≢false (sym (ok_from ls k a b c w.kind w.within) ∙ t)) q
-    go ih true t None h q = let z : ◌≡◌ {A = ℕ} 0 1 = cc in absurd (omega arith)
+    go ih true t None h q = cc
     go ih true t (Some j) h q =
         let same : suc j ≡ n = cc in
         let w = ih j h in
@@ -141,15 +121,15 @@ value_kind ls k a b c h =
 pub things_kinds : (ls ts ks : List ℕ) → wrong_thing ls ts ks ≡ None → kinds (values_in ls ts) ≡ ks
 unfolding wrong_thing kinds values_in
 things_kinds ls [] [] q = refl
-things_kinds ls [] (k ∷ ks) q = let z : ◌≡◌ {A = ℕ} 0 1 = cc in absurd (omega arith)
-things_kinds ls (a ∷ []) ks q = let z : ◌≡◌ {A = ℕ} 0 1 = cc in absurd (omega arith)
-things_kinds ls (a ∷ b ∷ []) ks q = let z : ◌≡◌ {A = ℕ} 0 1 = cc in absurd (omega arith)
-things_kinds ls (a ∷ b ∷ c ∷ ts) [] q = let z : ◌≡◌ {A = ℕ} 0 1 = cc in absurd (omega arith)
+things_kinds ls [] (k ∷ ks) q = cc
+things_kinds ls (a ∷ []) ks q = cc
+things_kinds ls (a ∷ b ∷ []) ks q = cc
+things_kinds ls (a ∷ b ∷ c ∷ ts) [] q = cc
 things_kinds ls (a ∷ b ∷ c ∷ ts) (k ∷ ks) q = go (λ h. things_kinds ls ts ks h) (thing_ok ls k a b c) refl (wrong_thing ls ts ks) refl q
   where
     go : (wrong_thing ls ts ks ≡ None → kinds (values_in ls ts) ≡ ks) → (t : Bool) → thing_ok ls k a b c ≡ t → (o : Option ℕ) → wrong_thing ls ts ks ≡ o → cond t (later o) (Some 0) ≡ None → kind (value_in ls a b c) ∷ kinds (values_in ls ts) ≡ k ∷ ks
-    go ih false t o h q = let z : ◌≡◌ {A = ℕ} 0 1 = cc in absurd (omega arith)
-    go ih true t (Some j) h q = let z : ◌≡◌ {A = ℕ} 0 1 = cc in absurd (omega arith)
+    go ih false t o h q = cc
+    go ih true t (Some j) h q = cc
     go ih true t None h q = ap₂ ◌∷◌ (value_kind ls k a b c t) (ih h)
 
 pub value_number : (ls : List ℕ) (a b c : ℕ) → a ≡ 1 → number b ≡ value_in ls a b c
@@ -184,12 +164,12 @@ threes_kept zero ls ts ks q l i m = absurd (omega arith)
 threes_kept (suc n) ls [] ks q l i m = absurd (omega arith)
 threes_kept (suc n) ls (a ∷ []) ks q l i m = absurd (omega arith)
 threes_kept (suc n) ls (a ∷ b ∷ []) ks q l i m = absurd (omega arith)
-threes_kept (suc n) ls (a ∷ b ∷ c ∷ ts) [] q l i m = let z : ◌≡◌ {A = ℕ} 0 1 = cc in absurd (omega arith)
+threes_kept (suc n) ls (a ∷ b ∷ c ∷ ts) [] q l i m = cc
 threes_kept (suc n) ls (a ∷ b ∷ c ∷ ts) (k ∷ ks) q l i m = go (λ h j w. threes_kept n ls ts ks h (omega arith) j w) (thing_ok ls k a b c) refl (wrong_thing ls ts ks) refl q i m
   where
     go : (wrong_thing ls ts ks ≡ None → (j : ℕ) → j < length (first_chunks 3 n ts) → Kept ls (get_or (first_chunks 3 n ts) j [])) → (t : Bool) → thing_ok ls k a b c ≡ t → (o : Option ℕ) → wrong_thing ls ts ks ≡ o → cond t (later o) (Some 0) ≡ None → (i : ℕ) → i < length (first_chunks 3 (suc n) (a ∷ b ∷ c ∷ ts)) → Kept ls (get_or (first_chunks 3 (suc n) (a ∷ b ∷ c ∷ ts)) i [])
-    go ih false t o h q i m = let z : ◌≡◌ {A = ℕ} 0 1 = cc in absurd (omega arith)
-    go ih true t (Some j) h q i m = let z : ◌≡◌ {A = ℕ} 0 1 = cc in absurd (omega arith)
+    go ih false t o h q i m = cc
+    go ih true t (Some j) h q i m = cc
     go ih true t None h q zero m = ok_kept ls k a b c t
     go ih true t None h q (suc i) m = ih h i (omega arith)
 
@@ -225,12 +205,12 @@ threes_found (suc n) ls (a ∷ b ∷ c ∷ ts) (k ∷ ks) l m =
     (threes_found n ls ts ks (omega arith) (omega arith))
 
 search_none : (t : Bool) (p : ℕ) → cond t (Some p) None ≡ None → t ≡ false
-search_none true p q = let z : ◌≡◌ {A = ℕ} 0 1 = cc in absurd (omega arith)
+search_none true p q = cc
 search_none false p q = refl
 
 search_some : (t : Bool) (p n : ℕ) → cond t (Some p) None ≡ Some n → (t ≡ true) × (p ≡ n)
 search_some true p n q = (refl, cc)
-search_some false p n q = let z : ◌≡◌ {A = ℕ} 0 1 = cc in absurd (omega arith)
+search_some false p n q = cc
 
 -- what the search of the program answers
 module _ (ls ts ks : List ℕ) (cs : List (List ℕ)) (threes : cs ≡ first_chunks 3 (length ts / 3) ts) where
@@ -250,10 +230,6 @@ module _ (ls ts ks : List ℕ) (cs : List (List ℕ)) (threes : cs ≡ first_chu
 
   pub found_count : (n : ℕ) → position (bad_thing ls) (zip cs ks) ≡ None → (length ts ≡ 3 * length ks → ⊥) → n ≡ min (length cs) (length ks) → wrong_thing ls ts ks ≡ Some n
   found_count n q e m = found.count (through q) e ∙ ap Some (length-zip cs ks ∙ sym m)
-
--- things told of the kinds that a message has
-pub told_right : (ls ts ks js : List ℕ) → None ≡ wrong_thing ls ts ks → ks ≡ js → ToldWell ls ts js × (kinds (values_in ls ts) ≡ js)
-told_right ls ts ks js q e = subst (λ (k : List ℕ). ToldWell ls ts k × (kinds (values_in ls ts) ≡ k)) e (things_well ls ts ks (sym q), things_kinds ls ts ks (sym q))
 
 pub refused_none : (ls ts ks : List ℕ) → told_fault ls ts ks ≡ None → wrong_thing ls ts ks ≡ None
 refused_none ls ts ks q = go (wrong_thing ls ts ks) q

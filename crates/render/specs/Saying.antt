@@ -44,7 +44,7 @@ SaidWithin None s room room₁ (Ok a) = Within s room room₁ a
 SaidWithin None s room room₁ (Err f) = ⊥
 
 -- in words: what passes is well told and of its kinds; what is refused is the first thing that isn't
-abbrev pub ToldExactly : (ls ts ks : List ℕ) → Result answer.Answer Refusal → Type 0
+abbrev pub ToldExactly : {A : Type 0} → (ls ts ks : List ℕ) → Result A Refusal → Type 0
 ToldExactly ls ts ks (Ok a) = ToldWell ls ts ks × (kinds (values_in ls ts) ≡ ks)
 ToldExactly ls ts ks (Err f) = ThingRefused ls ts ks f
 

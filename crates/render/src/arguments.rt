@@ -1,4 +1,4 @@
-// Arguments are made of what is told, and read by their numbers.
+// Arguments are made of what is told, and read by their numbers; apart from their struct, whose file may not bring in what names it.
 ghost use Rattle.std.specs.Prelude.{◌≡◌, ◌<◌, length, None, MatchResult};
 ghost use Rattle.code.specs.Step as step;
 ghost use Rattle.code.specs.Step.{value_at};
@@ -31,7 +31,7 @@ impl<'t, 'l> Args<'t, 'l> {
     {
         let things = self.things;
         let [kind, first, len] = things[i];
-        // As it is lent: 1 for a number, and else 0.
+        // As it is lent: 1 for a number, and else 0. (By a pattern over the three numbers it isn't covered.)
         if kind == 1 {
             Arg::Number(first)
         } else {

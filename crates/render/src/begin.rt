@@ -2,9 +2,9 @@
 ghost use Rattle.std.specs.Prelude.{◌≡◌, None, Some, MatchResult};
 ghost use Rattle.plural.specs.View.{rules_of};
 ghost use Rattle.verifier.specs.View.{code_of, kinds_of};
-ghost use Rattle.render.specs.Told.{told_fault, ThingRefused, ToldWell, values_in};
+ghost use Rattle.render.specs.Told.{told_fault};
+ghost use Rattle.render.specs.Saying.{ToldExactly};
 ghost use Rattle.render.specs.View.{env_in, env_of};
-ghost use Rattle.code.specs.Step as step;
 
 use crate::args::Args;
 use crate::env::Env;
@@ -24,9 +24,7 @@ impl<'c, 'r, 't, 'l> Saying<'c, 'r, 't, 'l> {
         ensures answer { MatchResult result
             (λ s. (told_fault told.entry.letters.now told.entry.things.now (kinds_of message.now) ≡ None) × (s.left.bytes.now ≡ code_of message.now) × (env_of s.env ≡ env_in (rules_of locale.now) told.entry.letters.now told.entry.things.now))
             (λ f. told_fault told.entry.letters.now told.entry.things.now (kinds_of message.now) ≡ Some f) }
-        ensures exactly { MatchResult result
-            (λ _. ToldWell told.entry.letters.now told.entry.things.now (kinds_of message.now) × (step.kinds (values_in told.entry.letters.now told.entry.things.now) ≡ kinds_of message.now))
-            (λ f. ThingRefused told.entry.letters.now told.entry.things.now (kinds_of message.now) f) }
+        ensures exactly { ToldExactly told.entry.letters.now told.entry.things.now (kinds_of message.now) result }
     {
         let args = Args::try_new(told, message.kinds())?;
         Ok(Saying {

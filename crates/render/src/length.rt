@@ -14,10 +14,6 @@ impl Saying<'_, '_, '_, '_> {
         ensures { Measured (run decode budget (env_of self.entry.env) (going self.entry.left.bytes.now [])) result }
     {
         let mut counter = Counter { total: 0 };
-        if self.walk(budget, &mut counter) {
-            Some(counter.total)
-        } else {
-            None
-        }
+        self.walk(budget, &mut counter).then_some(counter.total)
     }
 }

@@ -1,7 +1,7 @@
 // What a message is told, as it is lent, and tested against the kinds.
 ghost use Rattle.std.specs.Prelude.{◌≡◌, ◌+◌, not, None, MatchResult, slice_index, position, zip, List, ℕ};
-ghost use Rattle.code.specs.Step as step;
-ghost use Rattle.render.specs.Told.{thing_ok, bad_thing, told_fault, values_in, ToldWell, ThingRefused};
+ghost use Rattle.render.specs.Told.{thing_ok, bad_thing, told_fault};
+ghost use Rattle.render.specs.Saying.{ToldExactly};
 
 use code::{Kind, Refusal};
 
@@ -46,7 +46,7 @@ impl Told<'_, '_> {
     // Whether there is one thing for each kind, and each is well; if not, the first that isn't.
     pub(crate) fn check(&self, kinds: &[u8]) -> Result<(), Refusal>
         ensures answer { MatchResult result (λ _. told_fault self.now.letters.now self.now.things.now kinds.now ≡ None) (λ f. told_fault self.now.letters.now self.now.things.now kinds.now ≡ Some f) }
-        ensures exactly { MatchResult result (λ _. ToldWell self.now.letters.now self.now.things.now kinds.now × (step.kinds (values_in self.now.letters.now self.now.things.now) ≡ kinds.now)) (λ f. ThingRefused self.now.letters.now self.now.things.now kinds.now f) }
+        ensures exactly { ToldExactly self.now.letters.now self.now.things.now kinds.now result }
     {
         let (things, rest) = self.things.as_chunks::<3>();
         match self.first_wrong(things, kinds) {

@@ -20,6 +20,7 @@ impl Sink for Writer<'_> {
 
     ghost laws = { writer_laws };
 
+    #[tactic(auto, using(std::proofs::lemmas::Slice::overwrites))]
     fn letters(&mut self, part: &[u8]) {
         let at = self.at;
         let end = at + part.len();

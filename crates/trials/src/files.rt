@@ -81,7 +81,7 @@ fn things_told(rt: HostRuntime) -> Result<(), TellError> {
     things.thing(Kind::Number, b"007")?;
     things.text(b"Bo")?;
     assert_eq!(rt; things.number(b"seven"), Err(TellError::NoNumber));
-    assert_eq!(rt; things.len(), 3);
+    assert_eq!(rt; things.count(), 3);
     assert!(rt; things.told.as_slice() == [0, 0, 3, 1, 7, 0, 0, 3, 2].as_slice());
     assert!(rt; things.letters.as_slice() == b"IdaBo".as_slice());
     Ok(())

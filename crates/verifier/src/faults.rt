@@ -10,7 +10,7 @@ use crate::unchecked::Unchecked;
 use code::{Code, Refusal};
 
 // Whether code is good for these kinds; if not, the first refusal that applies: 1, 2, or 3 with the first step that isn't good.
-// Code and kinds come as two slices since nothing is known of them yet; once checked they are a `Message`.
+// Code and kinds come as two slices, as `check` is lent them, whose signature is fixed; once checked they are a `Message`.
 #[tactic(auto, using(crate::proofs::Scans::passed))]
 pub fn verify(code: &[u8], kinds: &[u8]) -> Result<(), Refusal>
     ensures answer { MatchResult result (λ _. fault_of code.now kinds.now ≡ None) (λ f. fault_of code.now kinds.now ≡ Some f) }

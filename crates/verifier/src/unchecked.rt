@@ -53,6 +53,7 @@ impl<'c> Unchecked<'c, '_> {
     }
 
     // Goes on to the first step that isn't good, or to the end of the code: by recursion on what is left, which is compiled to a loop.
+    #[tactic(auto, using(crate::proofs::Scans::stopped, crate::proofs::Scans::went_on))]
     pub(crate) fn scan(&mut self)
         ensures { bad_at decode zero self.old.kinds.now self.old.code.bytes.now + length self.new.code.bytes.now ≡ length self.old.code.bytes.now }
     {
