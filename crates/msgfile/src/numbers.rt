@@ -34,7 +34,7 @@ impl Place {
         }
     }
 
-    // Where a number ends, it is added.
+    // Where a number ends, it is added; to the vector that its caller makes, since mostly there is nothing to add.
     fn add_ended(self, next: Place, code: &mut Vec<u8>) -> Result<(), ReadError>
         ensures { MatchResult result (λ _. code.new.items ≡ code.old.items ++ ended self next) (λ e. e ≡ ReadError.Memory) }
     {

@@ -70,7 +70,7 @@ impl Speaker<'_> {
         })
     }
 
-    // The same; whether it was said. What is told why it wasn't begins with the label.
+    // The same; whether it was said. If it wasn't, it is told why, of a line by its number.
     fn try_say<'w, I: Iterator<Item = &'w [u8]> + Drop>(
         &self,
         line: Option<usize>,

@@ -31,7 +31,7 @@ impl<'t, 'l> Args<'t, 'l> {
     {
         let things = self.things;
         let [kind, first, len] = things[i];
-        // As it is lent: 1 for a number, and else 0. (By a pattern over the three numbers it isn't covered.)
+        // As it is lent, through entries whose form is fixed: 1 for a number, and else 0. (By a pattern over the three numbers it isn't covered.)
         if kind == 1 {
             Arg::Number(first)
         } else {

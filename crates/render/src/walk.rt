@@ -33,7 +33,7 @@ impl Env<'_, '_, '_> {
 }
 
 impl Saying<'_, '_, '_, '_> {
-    // What is left is said, within a budget of steps: by recursion on what is left, which is compiled to a loop. Whether it came to its end.
+    // What is left is said, within a budget of steps, which is counted down since it is lent: by recursion on what is left, which is compiled to a loop. Whether it came to its end.
     pub(crate) fn walk<S: Sink>(&mut self, budget: usize, sink: &mut S) -> bool
         requires { S.fits sink.old (says decode (env_of self.old.env) self.old.left.bytes.now) }
         ensures { Walked S.puts (run decode budget (env_of self.old.env) (going self.old.left.bytes.now [])) sink.old sink.new result }

@@ -29,7 +29,7 @@ pub fn verify(code: &[u8], kinds: &[u8]) -> Result<(), Refusal>
     Ok(())
 }
 
-// What is wrong with the step at this place, if anything is; a place behind the end has no byte.
+// What is wrong with the step at this place, if anything is: that is what is asked, and so an `Option`. A place behind the end has no byte.
 pub fn explain(code: &[u8], kinds: &[u8], at: usize) -> Option<Flaw>
     ensures value { result ≡ flaw_of kinds.now (drop at code.now) }
     ensures exactly { is_some result ≡ not (step_good decode kinds.now (drop at code.now)) }

@@ -8,7 +8,7 @@ use code::Code;
 #[derive(Clone, Copy, Debug)]
 pub struct Message<'a> {
     pub(crate) code: Code<'a>,
-    // As bytes, as they were lent: nothing is copied.
+    // As bytes, as the entries are lent them, whose form is fixed: nothing is copied.
     pub(crate) kinds: &'a [u8],
     ghost short: { length code.bytes.now ≤ 4096 },
     ghost few: { length kinds.now ≤ 16 },
