@@ -21,7 +21,7 @@ pub(crate) struct Speaker<'a> {
 }
 
 impl Speaker<'_> {
-    // One thing more: a number if that is its kind, and else a text.
+    // One thing more: a number if that is its kind, and else a text. What is told beyond the kinds is a text too, so that it is counted.
     fn tell(&self, things: &mut Things, word: &[u8]) -> Result<(), Unsaid> {
         let at = things.count();
         let kind = match self.message.kinds().get(at) {

@@ -25,9 +25,6 @@ figures_digit n l = figures_is n (omega arith) ∙ decimal_digit n l
 pub figures_step : (n : ℕ) → 10 ≤ n → n < 2 ^ 64 → figures n ≡ figures (n / 10) ++ ((48 + n % 10) ∷ [])
 figures_step n l h = figures_is n h ∙ decimal_step n l h ∙ ap (λ (ds : List ℕ). ds ++ ((48 + n % 10) ∷ [])) (sym (figures_is (n / 10) (omega arith)))
 
-pub figures_few : (n : ℕ) → n < 2 ^ 64 → (1 ≤ length (figures n)) × (length (figures n) ≤ 20)
-figures_few n l = let e = ap length (figures_is n l) in (omega (arith, e, decimal_nonempty n l), omega (arith, e, few_decimal n l))
-
 pub length_step : (n : ℕ) → 10 ≤ n → n < 2 ^ 64 → length (figures n) ≡ length (figures (n / 10)) + 1
 length_step n l h = ap length (figures_step n l h) ∙ length-append (figures (n / 10)) ((48 + n % 10) ∷ [])
 

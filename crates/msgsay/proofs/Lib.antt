@@ -1,1 +1,0 @@
--- No lemma is needed: the loops want only their invariants.
