@@ -49,32 +49,23 @@ rest_skipped (b ∷ bs) = go (eqb b 10) refl (rest_skipped bs)
         ap uncommented (front_none unended b bs (ap not e)) ∙ skipped_more false false b bs (skip_space b s) ∙ sym (skipped_more true false b bs (ap (λ (t : Bool). Some (not t)) e))
     go false e ih = ap uncommented (front_more unended b bs (ap not e)) ∙ ih ∙ sym (skipped_more true true b bs (ap (λ (t : Bool). Some (not t)) e))
 
-comment_skipped : (bs cs : List ℕ) → bs ≡ 35 ∷ cs → uncommented (drop (span unended bs) bs) ≡ uncommented bs
-comment_skipped bs cs q = rw q (ap uncommented (front_more unended 35 cs refl) ∙ rest_skipped cs ∙ sym (skipped_more false true 35 cs refl))
-
--- and is some bytes long
-comment_shorter : (bs cs : List ℕ) → bs ≡ 35 ∷ cs → length (drop (span unended bs) bs) < length bs
-comment_shorter bs cs q =
-    let e : length (drop (span unended (35 ∷ cs)) (35 ∷ cs)) ≡ length (drop (span unended cs) cs) = ap length (front_more unended 35 cs refl) in
-    rw q (omega (arith, e, length-drop (span unended cs) cs))
-
--- spaces and a comment behind them
-pub turn : (a b c cs : List ℕ) → b ≡ drop (span space a) a → c ≡ drop (span unended b) b → b ≡ 35 ∷ cs → (uncommented c ≡ uncommented a) × (length c < length a)
-turn a b c cs p q h = (
-  ap uncommented q ∙ comment_skipped b cs h ∙ ap uncommented p ∙ spaces_skipped a,
-  omega (arith, ap length p, ap length q, length-drop (span space a) a, comment_shorter b cs h),
+-- behind the sign of a comment stands what is behind its line
+pub past_comment : (bs cs r : List ℕ) (b : ℕ) → bs ≡ b ∷ cs → b ≡ 35 → r ≡ drop (span unended cs) cs → (uncommented r ≡ uncommented bs) × (length r < length bs)
+past_comment bs cs r b p e q = (
+  ap uncommented q ∙ rest_skipped cs ∙ sym (skipped_more false true 35 cs refl) ∙ ap (λ (x : ℕ). uncommented (x ∷ cs)) (sym e) ∙ ap uncommented (sym p),
+  omega (arith, ap length p, ap length q, length-drop (span unended cs) cs),
 )
 
--- where no comment begins behind the spaces, all is skipped
-pub all_skipped : (bs r : List ℕ) → r ≡ drop (span space bs) bs → ((cs : List ℕ) → r ≡ 35 ∷ cs → ⊥) → r ≡ uncommented bs
-unfolding skipped
-all_skipped [] r q h = q
-all_skipped (b ∷ bs) r q h = go (space b) refl (λ e. all_skipped bs r e h)
-  where
-    go : (t : Bool) → space b ≡ t → (r ≡ drop (span space bs) bs → r ≡ uncommented bs) → r ≡ uncommented (b ∷ bs)
-    go true e ih = ih (q ∙ front_more space b bs e) ∙ sym (skipped_more false false b bs (skip_space b e))
-    go false e ih =
-        let all : r ≡ b ∷ bs = q ∙ front_none space b bs e in
-        let n : eqb b 35 ≡ false = ne_eqb b 35 (λ k. h bs (all ∙ ap (λ (x : ℕ). x ∷ bs) k)) in
-        let s : skip false b ≡ None = grind (arith, nat_tests) in
-        all ∙ sym (skipped_none b bs s)
+-- and behind a space what is behind the spaces
+pub past_space : (bs cs r : List ℕ) (b : ℕ) → bs ≡ b ∷ cs → space b ≡ true → r ≡ drop (span space cs) cs → (uncommented r ≡ uncommented bs) × (length r < length bs)
+past_space bs cs r b p e q = (
+  ap uncommented q ∙ spaces_skipped cs ∙ sym (skipped_more false false b cs (skip_space b e)) ∙ ap uncommented (sym p),
+  omega (arith, ap length p, ap length q, length-drop (span space cs) cs),
+)
+
+-- where neither stands, nothing is skipped
+pub all_skipped : (bs cs : List ℕ) (b : ℕ) → bs ≡ b ∷ cs → (b ≡ 35 → ⊥) → space b ≡ false → bs ≡ uncommented bs
+all_skipped bs cs b p h k =
+    let n : eqb b 35 ≡ false = ne_eqb b 35 h in
+    let s : skip false b ≡ None = grind (arith, nat_tests) in
+    p ∙ sym (skipped_none b cs s) ∙ ap uncommented (sym p)

@@ -1,5 +1,7 @@
 // A message file: what is told, on a line of its own, and then the code.
+ghost use Rattle.std.specs.Prelude.{length};
 ghost use Rattle.msgfile.specs.File.{message_in, body_in, told_then, FileRead};
+ghost use Rattle.msgfile.specs.Read.{LeftWithin};
 
 use crate::error::ReadError;
 use crate::numbers::read_numbers;
@@ -34,7 +36,8 @@ fn read_body(alloc: Global, text: &[u8]) -> Result<Source, ReadError>
 
 // Reads a message file.
 pub fn read_message(alloc: Global, text: &[u8]) -> Result<Source, ReadError>
-    ensures { FileRead result (message_in text.now) }
+    ensures source { FileRead result (message_in text.now) }
+    ensures within { LeftWithin (length text.now) result }
 {
     read_body(alloc, skip_comments(text))
 }

@@ -57,11 +57,14 @@ pub(crate) fn skip_comments(text: &[u8]) -> &[u8]
     ensures { result.now ≡ uncommented text.now }
 {
     let mut left = text;
-    loop {
-        left = split_front(left, is_space).1;
-        if !left.starts_with(b"#") {
-            return left;
+    while let Some((byte, rest)) = left.split_first() {
+        if *byte == b'#' {
+            left = split_front(rest, |byte| byte != b'\n').1;
+        } else if is_space(*byte) {
+            left = split_front(rest, is_space).1;
+        } else {
+            break;
         }
-        left = split_front(left, |byte| byte != b'\n').1;
     }
+    left
 }

@@ -1,8 +1,7 @@
 -- Figures: one more step, how many there are, and that they are those of their number. Assumes nothing.
-use Rattle.std.proofs.Common.{◌≡◌, ℕ, zero, suc, ◌+◌, ◌-◌, ◌*◌, ◌/◌, ◌%◌, ◌^◌, ◌<◌, ◌≤◌, cond, ltb, List, [], ◌∷◌, ◌++◌, length, get_or, Some, None, decimal, Option, sym, refl, ap, ◌∙◌, subst, inl, inr, arith, length-append, rules}
+use Rattle.std.proofs.Common.{◌≡◌, ℕ, zero, suc, ◌+◌, ◌-◌, ◌*◌, ◌/◌, ◌%◌, ◌^◌, ◌<◌, ◌≤◌, cond, ltb, List, [], ◌∷◌, ◌++◌, length, get_or, Some, decimal, sym, refl, ap, ◌∙◌, subst, inl, inr, arith, length-append, rules}
 use Rattle.std.proofs.Math.Nat.{pow-succ'}
 use Rattle.std.specs.Int.{IsInRange}
-use Rattle.std.specs.Option.{MatchOption, IfSome, IfNone}
 use Rattle.std.proofs.lemmas.Bool.{lt-ltb, le-ltb, cases_lt, le-leb, cond_both}
 use Rattle.std.proofs.lemmas.Str.Parse.{IsNumeralModel, numerals_by_fold, tells_by_index}
 use Rattle.std.proofs.lemmas.Fmt.{AppendsLastDigit, decimal_from_appends, decimal_digit, decimal_step, decimal_nonempty, length-decimal-le, first_decimal, digits_decimal, digits_value-decimal, decimal-digits_value}
@@ -39,11 +38,6 @@ length_power (suc k) n l a b =
     pow_some : (k : ℕ) → 1 ≤ 10 ^ k
     pow_some zero = omega arith
     pow_some (suc k) = omega (arith, pow-succ' 10 k, pow_some k)
-
--- how many figures there are, by the greatest power of ten that is not above the number, if one is
-pub figures_len_by : (n k : ℕ) (o : Option ℕ) → n < 2 ^ 64 → IfNone o (n ≡ 0) → IfSome o (λ p. 10 ^ p ≤ n) → IfSome o (λ p. n < 10 * 10 ^ p) → MatchOption o (k ≡ 1) (λ p. k ≡ p + 1) → k ≡ length (figures n)
-figures_len_by n k None l z a b q = omega (arith, ap length (figures_digit n (omega arith)))
-figures_len_by n k (Some p) l z a b q = q ∙ sym (length_power p n l a b)
 
 own : IsNumeralModel (λ ds. (k : ℕ) → k < length ds → IsInRange 48 57 (get_or ds k 0)) (read_on 0)
 own = numerals_by_fold _ tells_by_index read_on (search rules)

@@ -1,5 +1,5 @@
 // Numbers in figures, without noughts in front.
-ghost use Rattle.std.specs.Prelude.{◌≡◌, ◌≤◌, [], ◌∷◌, length};
+ghost use Rattle.std.specs.Prelude.{◌≡◌, ◌+◌, ◌≤◌, [], ◌∷◌, ◌++◌, length, take, drop};
 ghost use Rattle.plural.specs.Figures.{figures, figures_on, number_in};
 
 use itoa::write_digits;
@@ -31,7 +31,7 @@ impl Figures {
         ensures most { length result ≤ 20 }
     {
         let mut digits = [b'0'; Self::MOST];
-        let start = write_digits(n, &mut digits, Self::MOST);
+        let start = write_figures(n, &mut digits);
         Figures { digits, start }
     }
 
@@ -42,11 +42,36 @@ impl Figures {
     }
 }
 
-// How many figures a number has.
+// Writes a number's figures at the end of `to`, and says where they begin.
+#[tactic(auto, using(crate::proofs::Written::figures_at_most))]
+pub fn write_figures(n: u64, to: &mut [u8; 20]) -> usize
+    ensures figures { drop result to.new ≡ figures n }
+    ensures len { result + length (figures n) ≡ 20 }
+{
+    put_figures(n, to, Figures::MOST)
+}
+
+// Writes a number's figures so that they end at a place, and says where they begin: into a room, with nothing to copy afterwards.
+pub fn put_figures(n: u64, to: &mut [u8], end: usize) -> usize
+    requires room { length (figures n) ≤ end }
+    requires within { end ≤ length to.old }
+    ensures place { result + length (figures n) ≡ end }
+    ensures text { drop result to.new ≡ figures n ++ drop end to.old }
+    ensures before { take result to.new ≡ take result to.old }
+{
+    write_digits(n, to, end)
+}
+
+// How many figures a number has. The shortest come first, since most numbers told are short: by the logarithm they took twice as long.
 pub fn figures_len(n: u64) -> usize
     ensures { result ≡ length (figures n) }
 {
-    n.checked_ilog10().map_or(1, |power| power as usize + 1)
+    let others = match n {
+        0..=9 => 0,
+        10..=99 => 1,
+        _ => n.ilog10() as usize,
+    };
+    others + 1
 }
 
 // The number that figures write, if they are figures of a number below 2^64.

@@ -5,7 +5,7 @@ ghost use Rattle.render.specs.Room.{Written};
 ghost use Rattle.render.specs.Writes.{writer_laws};
 
 use crate::sink::Sink;
-use plural::Figures;
+use plural::{figures_len, put_figures};
 
 #[derive(Drop)]
 pub(crate) struct Writer<'a> {
@@ -28,7 +28,10 @@ impl Sink for Writer<'_> {
         self.at = end;
     }
 
+    // Straight into the room: a few figures cost less to write than to copy.
     fn number(&mut self, n: u64) {
-        self.letters(Figures::new(n).as_slice());
+        let end = self.at + figures_len(n);
+        put_figures(n, self.room, end);
+        self.at = end;
     }
 }

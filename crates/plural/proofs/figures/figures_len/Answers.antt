@@ -1,8 +1,12 @@
-use Rattle.std.proofs.Common.{arith, rules}
-use Rattle.plural.proofs.Written.{figures_len_by}
+use Rattle.std.proofs.Common.{length, ap, arith}
+use Rattle.plural.proofs.Written.{figures_digit, length_power}
 use Rattle.plural.proofs.figures.figures_len.Goals as goal
+use Rattle.plural.proofs.figures.figures_len.Goals.{in-0-to-9, in-10-to-99, in_default}
 
 pub returns : goal.returns
 returns c =
-    let found = c.checked_ilog10.ensures in
-    figures_len_by c.args.n c.map_or.result c.checked_ilog10.result (omega arith) found.none found.power_le found.next_power_gt (search rules)
+    elim c.if-n-lt10.branch [
+      | in-0-to-9 w ↦ omega (arith, w.others-is, ap length (figures_digit c.args.n (omega arith)))
+      | in-10-to-99 w ↦ omega (arith, w.others-is, length_power 1 c.args.n (omega arith) (omega arith) (omega arith))
+      | in_default w ↦ omega (arith, w.others-is, length_power w.ilog10.result c.args.n (omega arith) w.ilog10.ensures.power_le w.ilog10.ensures.next_power_gt)
+    ]
