@@ -25,15 +25,6 @@ skipped_none b bs h = ap (λ (o : Option Bool). drop (skip_on (λ e. skipped e b
 skip_space : (b : ℕ) → space b ≡ true → skip false b ≡ Some false
 skip_space b h = ap (λ (t : Bool). cond t (Some false) (cond (eqb b 35) (Some true) None)) h
 
--- spaces are skipped
-spaces_skipped : (bs : List ℕ) → uncommented (drop (span space bs) bs) ≡ uncommented bs
-spaces_skipped [] = refl
-spaces_skipped (b ∷ bs) = go (space b) refl (spaces_skipped bs)
-  where
-    go : (t : Bool) → space b ≡ t → uncommented (drop (span space bs) bs) ≡ uncommented bs → uncommented (drop (span space (b ∷ bs)) (b ∷ bs)) ≡ uncommented (b ∷ bs)
-    go true e ih = ap uncommented (front_more space b bs e) ∙ ih ∙ sym (skipped_more false false b bs (skip_space b e))
-    go false e ih = ap uncommented (front_none space b bs e)
-
 -- a comment is skipped as far as the end of its line
 abbrev pub unended : ℕ → Bool
 unended b = not (eqb b 10)
@@ -56,12 +47,9 @@ past_comment bs cs r b p e q = (
   omega (arith, ap length p, ap length q, length-drop (span unended cs) cs),
 )
 
--- and behind a space what is behind the spaces
-pub past_space : (bs cs r : List ℕ) (b : ℕ) → bs ≡ b ∷ cs → space b ≡ true → r ≡ drop (span space cs) cs → (uncommented r ≡ uncommented bs) × (length r < length bs)
-past_space bs cs r b p e q = (
-  ap uncommented q ∙ spaces_skipped cs ∙ sym (skipped_more false false b cs (skip_space b e)) ∙ ap uncommented (sym p),
-  omega (arith, ap length p, ap length q, length-drop (span space cs) cs),
-)
+-- and behind a space what is behind it
+pub past_space : (bs cs : List ℕ) (b : ℕ) → bs ≡ b ∷ cs → space b ≡ true → (uncommented cs ≡ uncommented bs) × (length cs < length bs)
+past_space bs cs b p e = (sym (skipped_more false false b cs (skip_space b e)) ∙ ap uncommented (sym p), omega (arith, ap length p))
 
 -- where neither stands, nothing is skipped
 pub all_skipped : (bs cs : List ℕ) (b : ℕ) → bs ≡ b ∷ cs → (b ≡ 35 → ⊥) → space b ≡ false → bs ≡ uncommented bs

@@ -61,7 +61,7 @@ pub(crate) fn skip_comments(text: &[u8]) -> &[u8]
         if *byte == b'#' {
             left = split_front(rest, |byte| byte != b'\n').1;
         } else if is_space(*byte) {
-            left = split_front(rest, is_space).1;
+            left = rest;
         } else {
             break;
         }

@@ -30,9 +30,13 @@ impl Figures {
         ensures value { result ≡ figures n }
         ensures most { length result ≤ 20 }
     {
-        let mut digits = [b'0'; Self::MOST];
-        let start = write_figures(n, &mut digits);
-        Figures { digits, start }
+        // Made in place, so that its figures are copied once less.
+        let mut figures = Figures {
+            digits: [b'0'; Self::MOST],
+            start: Self::MOST,
+        };
+        figures.start = write_figures(n, &mut figures.digits);
+        figures
     }
 
     pub fn as_slice(&self) -> &[u8]

@@ -1,5 +1,4 @@
 use Rattle.std.proofs.Common.{◌∙◌, sym, rules, tests}
-use Rattle.msgfile.specs.Text.{space}
 use Rattle.msgfile.proofs.Fronts.{past_comment, past_space, all_skipped, unended}
 use Rattle.msgfile.proofs.words.skip_comments.Goals as goal
 
@@ -10,10 +9,10 @@ pub loop-byte-preserved-then-byte-eq35 : goal.loop-byte-preserved-then-byte-eq35
 loop-byte-preserved-then-byte-eq35 c = (past_comment _ _ _ _ c.in-Some.ensures.cases.0 c.if-byte-eq35.true (c.split_front.ensures unended (λ b r h. search (rules, tests))).rest).0 ∙ c.loop-byte.invariant
 
 pub loop-byte-smaller : goal.loop-byte-smaller
-loop-byte-smaller c = (past_space _ _ _ _ c.in-Some.ensures.cases.0 (sym c.is_space.ensures ∙ c.if-is_space.true) (c.split_front-then-is_space.ensures space (λ b r h. h)).rest).1
+loop-byte-smaller c = (past_space _ _ _ c.in-Some.ensures.cases.0 (sym c.is_space.ensures ∙ c.if-is_space.true)).1
 
 pub loop-byte-preserved : goal.loop-byte-preserved
-loop-byte-preserved c = (past_space _ _ _ _ c.in-Some.ensures.cases.0 (sym c.is_space.ensures ∙ c.if-is_space.true) (c.split_front-then-is_space.ensures space (λ b r h. h)).rest).0 ∙ c.loop-byte.invariant
+loop-byte-preserved c = (past_space _ _ _ c.in-Some.ensures.cases.0 (sym c.is_space.ensures ∙ c.if-is_space.true)).0 ∙ c.loop-byte.invariant
 
 pub returns-else-is_space : goal.returns-else-is_space
 returns-else-is_space c = all_skipped _ _ _ c.in-Some.ensures.cases.0 c.if-byte-eq35.false (sym c.is_space.ensures ∙ c.if-is_space.false) ∙ c.loop-byte.invariant
