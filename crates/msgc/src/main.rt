@@ -1,7 +1,10 @@
 // msgc checks the code of messages: `good`, or the first step that isn't, and why.
 #![tactic(auto)]
 
+ghost use Rattle.report.specs.Found.{Found};
+
 use console::{Console, Misuse, is_help, is_option};
+use msgfile::Source;
 use report::Verdict;
 use std::io;
 use std::process::ExitCode;
@@ -29,12 +32,19 @@ options:
   -h, --help   print this
 ";
 
+// What is found of a message's code, with what the message is told.
+fn verdict_of(source: &Source) -> Verdict
+    ensures { Found source.now.code.items source.now.kinds.items result }
+{
+    Verdict::of(source.code.as_slice(), source.kinds.as_slice())
+}
+
 // Checks a file, and prints the answer behind what its line begins with; whether it is good.
 fn check_file(console: &Console, label: &str, path: &str) -> io::Result<bool> {
     let Some(source) = console.load_message(path)? else {
         return Ok(false);
     };
-    let verdict = Verdict::of(source.code.as_slice(), source.kinds.as_slice());
+    let verdict = verdict_of(&source);
     println!(console.rt; "{label}{verdict}")?;
     Ok(verdict == Verdict::Good)
 }

@@ -1,19 +1,11 @@
 -- Fronts of a text. Assumes nothing.
 use Rattle.std.proofs.Common.{◌≡◌, ℕ, suc, ◌+◌, ◌<◌, Bool, true, false, cond, not, eqb, List, [], ◌∷◌, length, drop, Some, None, Option, refl, sym, ap, ◌∙◌, arith, length-drop}
+use Rattle.std.specs.List.{position_or_len, after_first}
 use Rattle.std.proofs.lemmas.Bool.{ne_eqb}
 use Rattle.std.proofs.lemmas.Bool.Decides.{nat_tests}
-use Rattle.msgfile.specs.Text.{space, span, skip, skip_on, skipped, uncommented}
+use Rattle.msgfile.specs.Text.{space, newline, skip, skip_on, skipped, uncommented}
 
--- behind a front there is what is behind it without its first byte, or all, if that doesn't pass
-front_more : (p : ℕ → Bool) (b : ℕ) (bs : List ℕ) → p b ≡ true → drop (span p (b ∷ bs)) (b ∷ bs) ≡ drop (span p bs) bs
-front_more p b bs h =
-    let e : 1 + span p bs ≡ suc (span p bs) = omega arith in
-    ap (λ (t : Bool). drop (cond t (1 + span p bs) 0) (b ∷ bs)) h ∙ ap (λ (k : ℕ). drop k (b ∷ bs)) e
-
-front_none : (p : ℕ → Bool) (b : ℕ) (bs : List ℕ) → p b ≡ false → drop (span p (b ∷ bs)) (b ∷ bs) ≡ b ∷ bs
-front_none p b bs h = ap (λ (t : Bool). drop (cond t (1 + span p bs) 0) (b ∷ bs)) h
-
--- the same of spaces and comments
+-- behind a byte that is skipped stands what is behind all of them
 skipped_more : (c d : Bool) (b : ℕ) (bs : List ℕ) → skip c b ≡ Some d → drop (skipped c (b ∷ bs)) (b ∷ bs) ≡ drop (skipped d bs) bs
 unfolding skipped
 skipped_more c d b bs h = ap (λ (o : Option Bool). drop (skip_on (λ e. skipped e bs) o) (b ∷ bs)) h
@@ -25,26 +17,23 @@ skipped_none b bs h = ap (λ (o : Option Bool). drop (skip_on (λ e. skipped e b
 skip_space : (b : ℕ) → space b ≡ true → skip false b ≡ Some false
 skip_space b h = ap (λ (t : Bool). cond t (Some false) (cond (eqb b 35) (Some true) None)) h
 
--- a comment is skipped as far as the end of its line
-abbrev pub unended : ℕ → Bool
-unended b = not (eqb b 10)
-
-rest_skipped : (bs : List ℕ) → uncommented (drop (span unended bs) bs) ≡ drop (skipped true bs) bs
+-- a comment is skipped with the end of its line
+line_skipped : (bs : List ℕ) → uncommented (after_first newline bs) ≡ drop (skipped true bs) bs
 unfolding skipped
-rest_skipped [] = refl
-rest_skipped (b ∷ bs) = go (eqb b 10) refl (rest_skipped bs)
+line_skipped [] = refl
+line_skipped (b ∷ bs) = go (newline b) refl (line_skipped bs)
   where
-    go : (t : Bool) → eqb b 10 ≡ t → uncommented (drop (span unended bs) bs) ≡ drop (skipped true bs) bs → uncommented (drop (span unended (b ∷ bs)) (b ∷ bs)) ≡ drop (skipped true (b ∷ bs)) (b ∷ bs)
-    go true e ih =
-        let s : space b ≡ true = grind (arith, nat_tests) in
-        ap uncommented (front_none unended b bs (ap not e)) ∙ skipped_more false false b bs (skip_space b s) ∙ sym (skipped_more true false b bs (ap (λ (t : Bool). Some (not t)) e))
-    go false e ih = ap uncommented (front_more unended b bs (ap not e)) ∙ ih ∙ sym (skipped_more true true b bs (ap (λ (t : Bool). Some (not t)) e))
+    go : (t : Bool) → newline b ≡ t → uncommented (after_first newline bs) ≡ drop (skipped true bs) bs → uncommented (after_first newline (b ∷ bs)) ≡ drop (skipped true (b ∷ bs)) (b ∷ bs)
+    go true e ih = ap (λ (t : Bool). uncommented (drop (cond (not t) (1 + position_or_len newline bs) 0 + 1) (b ∷ bs))) e ∙ sym (skipped_more true false b bs (ap (λ (t : Bool). Some (not t)) e))
+    go false e ih =
+        let n : (1 + position_or_len newline bs) + 1 ≡ suc (position_or_len newline bs + 1) = omega arith in
+        ap (λ (t : Bool). uncommented (drop (cond (not t) (1 + position_or_len newline bs) 0 + 1) (b ∷ bs))) e ∙ ap (λ (k : ℕ). uncommented (drop k (b ∷ bs))) n ∙ ih ∙ sym (skipped_more true true b bs (ap (λ (t : Bool). Some (not t)) e))
 
 -- behind the sign of a comment stands what is behind its line
-pub past_comment : (bs cs r : List ℕ) (b : ℕ) → bs ≡ b ∷ cs → b ≡ 35 → r ≡ drop (span unended cs) cs → (uncommented r ≡ uncommented bs) × (length r < length bs)
+pub past_comment : (bs cs r : List ℕ) (b : ℕ) → bs ≡ b ∷ cs → b ≡ 35 → r ≡ after_first newline cs → (uncommented r ≡ uncommented bs) × (length r < length bs)
 past_comment bs cs r b p e q = (
-  ap uncommented q ∙ rest_skipped cs ∙ sym (skipped_more false true 35 cs refl) ∙ ap (λ (x : ℕ). uncommented (x ∷ cs)) (sym e) ∙ ap uncommented (sym p),
-  omega (arith, ap length p, ap length q, length-drop (span unended cs) cs),
+  ap uncommented q ∙ line_skipped cs ∙ sym (skipped_more false true 35 cs refl) ∙ ap (λ (x : ℕ). uncommented (x ∷ cs)) (sym e) ∙ ap uncommented (sym p),
+  omega (arith, ap length p, ap length q, length-drop (position_or_len newline cs + 1) cs),
 )
 
 -- and behind a space what is behind it

@@ -20,6 +20,10 @@ wordy b = not (space b || (b == 44 || b == 35))
 abbrev pub lined : ℕ → Bool
 lined b = not (b == 10 || b == 35)
 
+-- the end of a line
+abbrev pub newline : ℕ → Bool
+newline b = b == 10
+
 -- how many bytes at the front pass a test
 abbrev pub span : (ℕ → Bool) → List ℕ → ℕ
 span p bs = prefix_len p bs

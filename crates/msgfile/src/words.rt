@@ -1,6 +1,7 @@
 // Text by its bytes: its longest front of one sort, and what is left behind it.
 ghost use Rattle.std.specs.Prelude.{◌≡◌, ℕ, Bool};
-ghost use Rattle.msgfile.specs.Text.{blank, space, wordy, lined, unblanked, uncommented, SplitBy};
+ghost use Rattle.std.specs.List.{position, after_first};
+ghost use Rattle.msgfile.specs.Text.{blank, space, wordy, lined, newline, unblanked, uncommented, SplitBy};
 
 fn is_blank(byte: u8) -> bool
     ensures { result ≡ blank byte }
@@ -52,6 +53,23 @@ pub(crate) fn split_line(text: &[u8]) -> (&[u8], &[u8])
     split_front(text, |byte| !(byte == b'\n' || byte == b'#'))
 }
 
+// Where the line at the front ends, if it does.
+fn line_end(text: &[u8]) -> Option<usize>
+    ensures { result ≡ position newline text.now }
+{
+    text.iter().position(|byte| *byte == b'\n')
+}
+
+// What stands behind the line at the front and its end.
+fn skip_line(text: &[u8]) -> &[u8]
+    ensures { result.now ≡ after_first newline text.now }
+{
+    match line_end(text) {
+        Some(end) => &text[end + 1..],
+        None => &[],
+    }
+}
+
 // What stands behind the spaces and comments at the front.
 pub(crate) fn skip_comments(text: &[u8]) -> &[u8]
     ensures { result.now ≡ uncommented text.now }
@@ -59,7 +77,7 @@ pub(crate) fn skip_comments(text: &[u8]) -> &[u8]
     let mut left = text;
     while let Some((byte, rest)) = left.split_first() {
         if *byte == b'#' {
-            left = split_front(rest, |byte| byte != b'\n').1;
+            left = skip_line(rest);
         } else if is_space(*byte) {
             left = rest;
         } else {

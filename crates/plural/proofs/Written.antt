@@ -1,7 +1,8 @@
 -- Figures: one more step, how many there are, and that they are those of their number. Assumes nothing.
-use Rattle.std.proofs.Common.{◌≡◌, ℕ, zero, suc, ◌+◌, ◌-◌, ◌*◌, ◌/◌, ◌%◌, ◌^◌, ◌<◌, ◌≤◌, cond, ltb, List, [], ◌∷◌, ◌++◌, length, get_or, Some, decimal, sym, refl, ap, ◌∙◌, subst, inl, inr, arith, length-append, rules}
+use Rattle.std.proofs.Common.{◌≡◌, ℕ, zero, suc, ◌+◌, ◌-◌, ◌*◌, ◌/◌, ◌%◌, ◌^◌, ◌<◌, ◌≤◌, cond, ltb, List, [], ◌∷◌, ◌++◌, length, drop, get_or, Some, decimal, sym, refl, ap, ◌∙◌, subst, inl, inr, arith, length-append, rules}
 use Rattle.std.proofs.Math.Nat.{pow-succ'}
 use Rattle.std.specs.Int.{IsInRange}
+use Rattle.std.proofs.lemmas.List.{append-nil, drop_all}
 use Rattle.std.proofs.lemmas.Bool.{lt-ltb, le-ltb, cases_lt, le-leb, cond_both}
 use Rattle.std.proofs.lemmas.Str.Parse.{IsNumeralModel, numerals_by_fold, tells_by_index}
 use Rattle.std.proofs.lemmas.Fmt.{AppendsLastDigit, decimal_from_appends, decimal_digit, decimal_step, decimal_nonempty, length-decimal-le, first_decimal, digits_decimal, digits_value-decimal, decimal-digits_value}
@@ -71,6 +72,10 @@ by_few (suc f) n =
 pub figures_at_most : (n : ℕ) → length (figures n) ≤ 20
 unfolding figures
 figures_at_most n = by_few 20 n
+
+-- written up to a buffer's end, nothing stands behind them
+pub ends_figures : (n at : ℕ) (to made : List ℕ) → n < 2 ^ 64 → length to ≤ 20 → drop at made ≡ decimal n ++ drop 20 to → drop at made ≡ figures n
+ends_figures n at to made l m d = d ∙ ap (λ (ds : List ℕ). decimal n ++ ds) (drop_all 20 to m) ∙ append-nil (decimal n) ∙ sym (figures_is n l)
 
 -- one figure more, or none
 pub on_figure : (n c : ℕ) (cs : List ℕ) → 48 ≤ c → c ≤ 57 → 10 * n + (c - 48) < 18446744073709551616 → figures_on n (c ∷ cs) ≡ figures_on (10 * n + (c - 48)) cs

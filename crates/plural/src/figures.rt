@@ -1,5 +1,5 @@
 // Numbers in figures, without noughts in front.
-ghost use Rattle.std.specs.Prelude.{◌≡◌, ◌+◌, ◌≤◌, [], ◌∷◌, ◌++◌, length, take, drop};
+ghost use Rattle.std.specs.Prelude.{◌≡◌, ◌+◌, ◌≤◌, [], ◌∷◌, length, drop};
 ghost use Rattle.plural.specs.Figures.{figures, figures_on, number_in};
 
 use itoa::write_digits;
@@ -47,23 +47,12 @@ impl Figures {
 }
 
 // Writes a number's figures at the end of `to`, and says where they begin.
-#[tactic(auto, using(crate::proofs::Written::figures_at_most))]
+#[tactic(auto, using(crate::proofs::Written::few_decimal, crate::proofs::Written::figures_is, crate::proofs::Written::ends_figures))]
 pub fn write_figures(n: u64, to: &mut [u8; 20]) -> usize
     ensures figures { drop result to.new ≡ figures n }
     ensures len { result + length (figures n) ≡ 20 }
 {
-    put_figures(n, to, Figures::MOST)
-}
-
-// Writes a number's figures so that they end at a place, and says where they begin: into a room, with nothing to copy afterwards.
-pub fn put_figures(n: u64, to: &mut [u8], end: usize) -> usize
-    requires room { length (figures n) ≤ end }
-    requires within { end ≤ length to.old }
-    ensures place { result + length (figures n) ≡ end }
-    ensures text { drop result to.new ≡ figures n ++ drop end to.old }
-    ensures before { take result to.new ≡ take result to.old }
-{
-    write_digits(n, to, end)
+    write_digits(n, to, Figures::MOST)
 }
 
 // How many figures a number has. The shortest come first, since most numbers told are short: by the logarithm they took twice as long.

@@ -8,6 +8,6 @@ mod promises;
 mod rule;
 mod rules;
 
-pub use figures::{Figures, figures_len, put_figures, read_figures, write_figures};
+pub use figures::{Figures, figures_len, read_figures, write_figures};
 pub use locale::Locale;
 pub use promises::promise;

@@ -5,7 +5,8 @@ ghost use Rattle.render.specs.Room.{Written};
 ghost use Rattle.render.specs.Writes.{writer_laws};
 
 use crate::sink::Sink;
-use plural::{figures_len, put_figures};
+use itoa::write_digits;
+use plural::figures_len;
 
 #[derive(Drop)]
 pub(crate) struct Writer<'a> {
@@ -31,7 +32,7 @@ impl Sink for Writer<'_> {
     // Straight into the room: a few figures cost less to write than to copy.
     fn number(&mut self, n: u64) {
         let end = self.at + figures_len(n);
-        put_figures(n, self.room, end);
+        write_digits(n, self.room, end);
         self.at = end;
     }
 }

@@ -1,12 +1,12 @@
-use Rattle.std.proofs.Common.{◌∙◌, sym, rules, tests}
-use Rattle.msgfile.proofs.Fronts.{past_comment, past_space, all_skipped, unended}
+use Rattle.std.proofs.Common.{◌∙◌, sym}
+use Rattle.msgfile.proofs.Fronts.{past_comment, past_space, all_skipped}
 use Rattle.msgfile.proofs.words.skip_comments.Goals as goal
 
 pub loop-byte-smaller-then-byte-eq35 : goal.loop-byte-smaller-then-byte-eq35
-loop-byte-smaller-then-byte-eq35 c = (past_comment _ _ _ _ c.in-Some.ensures.cases.0 c.if-byte-eq35.true (c.split_front.ensures unended (λ b r h. search (rules, tests))).rest).1
+loop-byte-smaller-then-byte-eq35 c = (past_comment _ _ _ _ c.in-Some.ensures.cases.0 c.if-byte-eq35.true c.skip_line-left.ensures).1
 
 pub loop-byte-preserved-then-byte-eq35 : goal.loop-byte-preserved-then-byte-eq35
-loop-byte-preserved-then-byte-eq35 c = (past_comment _ _ _ _ c.in-Some.ensures.cases.0 c.if-byte-eq35.true (c.split_front.ensures unended (λ b r h. search (rules, tests))).rest).0 ∙ c.loop-byte.invariant
+loop-byte-preserved-then-byte-eq35 c = (past_comment _ _ _ _ c.in-Some.ensures.cases.0 c.if-byte-eq35.true c.skip_line-left.ensures).0 ∙ c.loop-byte.invariant
 
 pub loop-byte-smaller : goal.loop-byte-smaller
 loop-byte-smaller c = (past_space _ _ _ c.in-Some.ensures.cases.0 (sym c.is_space.ensures ∙ c.if-is_space.true)).1
