@@ -32,7 +32,7 @@ options:
   -h, --help   print this
 ";
 
-// What is found of a message's code, with what the message is told.
+// What is found of a message. A function of its own, so that its contract holds it to this message's code and kinds.
 fn verdict_of(source: &Source) -> Verdict
     ensures { Found source.now.code.items source.now.kinds.items result }
 {
